@@ -1,0 +1,3 @@
+-- The laws of `ink` that belong to no one function
+pub mod Digits
+pub mod Left

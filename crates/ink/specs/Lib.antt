@@ -1,0 +1,2 @@
+-- What the contracts of `ink` cite
+pub mod Ink
