@@ -1,0 +1,4 @@
+-- The laws of `tfm` that belong to no one function
+pub mod Accepted
+pub mod Exact
+pub mod Once
