@@ -1,0 +1,2 @@
+-- The marked examples of the scope
+pub mod Marked
