@@ -5,25 +5,31 @@ import sys
 from pathlib import Path
 
 ROOT = Path(__file__).resolve().parent.parent
-FUNCTION = re.compile(r'^(?:#\[no_mangle\]\n)?pub (?:extern "C" )?fn (\w+)(.*?)\n\{', re.M | re.S)
+FUNCTION = re.compile(r'^pub (?:extern "C" )?fn (\w+)(.*?)\n\{', re.M | re.S)
+MODULE = re.compile(r"^pub mod (\w+);", re.M)
+
+
+def public(source, path):
+    """The public functions of a file and of its public modules, each with its head."""
+    text = source.read_text()
+    for name, head in FUNCTION.findall(text):
+        yield f"{path}::{name}", head
+    for module in MODULE.findall(text):
+        yield from public(source.with_name(module + ".rt"), f"{path}::{module}")
 
 
 def main():
-    faults, public = [], set()
-    for source in sorted(ROOT.glob("crates/*/src/lib.rt")):
-        crate = source.parts[-3]
-        for name, head in FUNCTION.findall(source.read_text()):
-            public.add(f"{crate}::{name}")
-            if "\n    requires" in head:
-                faults.append(f"{crate}::{name} has a requires")
-            if "\n    ensures" not in head:
-                faults.append(f"{crate}::{name} has no ensures")
-    listed = set(re.findall(r"^\| `(\w+::\w+)`", (ROOT / "docs" / "STATEMENTS.md").read_text(), re.M))
-    faults += [f"{f} is not in docs/STATEMENTS.md" for f in sorted(public - listed)]
-    faults += [f"docs/STATEMENTS.md speaks of {f}, which is not there" for f in sorted(listed - public)]
+    functions = {}
+    for root in sorted(ROOT.glob("crates/*/src/lib.rt")):
+        functions.update(public(root, root.parts[-3]))
+    faults = [f"{f} has a requires" for f, head in functions.items() if "\n    requires" in head]
+    faults += [f"{f} has no ensures" for f, head in functions.items() if "\n    ensures" not in head]
+    listed = set(re.findall(r"^\| `([\w:]+)`", (ROOT / "docs" / "STATEMENTS.md").read_text(), re.M))
+    faults += [f"{f} is not in docs/STATEMENTS.md" for f in sorted(set(functions) - listed)]
+    faults += [f"docs/STATEMENTS.md speaks of {f}, which is not there" for f in sorted(listed - set(functions))]
     if faults:
         sys.exit("statements: " + "; ".join(faults))
-    print(f"statements: {len(public)} public functions, each with an ensures, without a requires, and listed")
+    print(f"statements: {len(functions)} public functions, each with an ensures, without a requires, and listed")
 
 
 main()

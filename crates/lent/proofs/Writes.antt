@@ -5,12 +5,16 @@ use native.Mathlib.Numerals.{add-one}
 use mathlib.Core.Path.{_≡_, refl, ap, _∙_}
 use mathlib.Core.Bool.{Bool, true, false}
 use Rattle.lent.specs.Fold.{iterate}
-use Rattle.lent.specs.Write.{Pen, Text, _▹_, when, each, run, Wrote}
+use Rattle.lent.specs.Write.{Pen, Text, none, _▹_, when, each, run, Wrote}
 
 -- one call after another
 pub seq : {p q s : Pen} {t u : Text} → Wrote q u s → Wrote p t q → Wrote p (t ▹ u) s
 unfolding run
 seq {p} {q} {s} {t} {u} e h = record { is = e .is ∙ ap (λ (x : Pen). run x u) (h .is) }
+
+pub still : {p : Pen} → Wrote p none p
+unfolding run
+still = record { is = refl }
 
 -- an arm of a branch: the test's truth, and what the arm wrote
 pub arm-then : {p s : Pen} {b : Bool} {t u : Text} → b ≡ true → Wrote p t s → Wrote p (when b t u) s

@@ -1,5 +1,6 @@
 // Lent slices, total: every read, part and store has an answer, and a writer marks for good what did not fit.
 ghost use mathlib.Core.Path.{_≡_};
+ghost use mathlib.Core.Bool.{cond};
 ghost use mathlib.Core.List.{_++_};
 ghost use Prim.Native.Nat.{_-_, min};
 ghost use lib.ListN.{length, getD, take, drop, set, replicate};
@@ -57,6 +58,12 @@ pub fn first(test: bool, n: u8, later: u8) -> u8
     ensures { λ r. ⌜ r ≡ first test n later ⌝ }
 {
     if test { n } else { later }
+}
+
+pub fn choose(test: bool, a: u32, b: u32) -> u32
+    ensures { λ r. ⌜ r ≡ cond test a b ⌝ }
+{
+    if test { a } else { b }
 }
 
 // Zeros, all over.

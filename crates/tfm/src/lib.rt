@@ -83,7 +83,7 @@ fn counts(l: Layout) -> [u32; 10]
 }
 
 pub fn count(l: Layout, k: u8) -> u32
-    ensures { λ r. ⌜ r ≡ countOf l k ⌝ }
+    ensures { λ r. ⌜ (r ≡ countOf l k) × (r ≤ 65536) ⌝ }
 {
     let counts = counts(l);
     lent::number_at(&counts, k as usize)

@@ -1,9 +1,9 @@
 -- The turns of the loop are those of `iterate`.
 use Prim.Native.Nat.{_+_, _-_, _*_, _≤_}
 use mathlib.Core.Path.{_≡_}
+use native.Mathlib.Numerals.{add-one}
 use native.Mathlib.Omega.{arith}
 use Rattle.lent.specs.Fold.{iterate}
-use Rattle.lent.proofs.Lists.{iterate-more}
 use Rattle.tfm.specs.Subfiles.{startOf}
 use borrow.Author.Needs.{needs}
 use Rattle.tfm.proofs.start.Statement.{statement}
@@ -28,4 +28,4 @@ unfolding startOf iterate
 start-spec =
     tie.close
     (tie.spec Inv-loop μ-loop (λ c. search needs) (λ c κs. search needs) (λ c. search needs) (λ c. search needs)
-    (λ c. search needs) (λ c. search needs) (λ c. (omega arith, rw iterate-more (omega arith), omega arith)) returns)
+    (λ c. search needs) (λ c. search needs) (λ c. (omega arith, rw add-one (omega arith), omega arith)) returns)

@@ -10,4 +10,4 @@ table-spec =
     tie.close
     (tie.spec (λ c κs. search needs) (λ c. search needs) (λ c κs. search needs) (λ c. search needs)
     (λ c. search needs) (λ c κs. search needs)
-    (λ c. rw (← c .before .before .start .ensures .0, ← c .before .count .ensures) (c .part .ensures)))
+    (λ c. rw (← c .before .before .start .ensures .0, ← c .before .count .ensures .0) (c .part .ensures)))

@@ -1,0 +1,4 @@
+-- The findings of a file and its mended copy
+pub mod Holds
+pub mod Findings
+pub mod Copy

@@ -1,0 +1,3 @@
+-- What the contracts of `program` cite
+pub mod Steps
+pub mod Marks
