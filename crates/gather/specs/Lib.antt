@@ -1,0 +1,4 @@
+-- What the contracts of `gather` cite
+pub mod Steps
+pub mod Answers
+pub mod Pairs

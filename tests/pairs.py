@@ -1,0 +1,202 @@
+#!/usr/bin/env python3
+"""The program `pairs` beside 01's rules in Python, over made and damaged files: which pairs loop, what the others leave, and how many entries the room needs."""
+import random
+import resource
+import struct
+import subprocess
+import sys
+from pathlib import Path
+
+sys.dont_write_bytecode = True
+import damage
+import tftopl
+
+ROOT = Path(__file__).resolve().parent.parent
+ROOM = 5000
+LEFT_BOUNDARY = 256
+
+
+def font(steps, starts, boundary=None):
+    """A file in which every code exists: `starts` has the first step of each code with a program, `boundary` that of the left boundary."""
+    steps = list(steps)
+    if boundary is not None:
+        steps.append(bytes([255, 0, boundary >> 8, boundary & 255]))
+    infos = b"".join(bytes([1, 0, 1, starts[c]]) if c in starts else bytes([1, 0, 0, 0]) for c in range(256))
+    sizes = [0, 2, 0, 255, 2, 1, 1, 1, len(steps), 1, 0, 0]
+    body = bytes(4) + bytes([0, 160, 0, 0]) + infos + bytes(4) + bytes([0, 8, 0, 0]) + bytes(12) + b"".join(steps) + bytes(4)
+    sizes[0] = 6 + len(body) // 4
+    return struct.pack(">12H", *sizes) + body
+
+
+def step(right, code, z, skip=128):
+    return bytes([skip, right, code, z])
+
+
+def redirect(target):
+    return bytes([254, 0, target >> 8, target & 255])
+
+
+def program(copy):
+    """The steps of the mended program: (left, right) to (code, z)."""
+    lf, lh, bc, ec, nw, nh, nd, ni, nl, nk, ne, np = struct.unpack(">12H", copy[:24])
+    infos = copy[24 + 4 * lh :]
+    steps = infos[4 * (ec - bc + 1 + nw + nh + nd + ni) :]
+    starts = {}
+    for c in range(bc, ec + 1):
+        info = infos[4 * (c - bc) :][:4]
+        if info[2] % 4 == 1:
+            r = info[3]
+            starts[c] = int.from_bytes(steps[4 * r + 2 :][:2], "big") if steps[4 * r] > 128 else r
+    if nl and steps[4 * nl - 4] == 255:
+        starts[LEFT_BOUNDARY] = int.from_bytes(steps[4 * nl - 2 :][:2], "big")
+    pairs = {}
+    for x, i in starts.items():
+        while i < nl and steps[4 * i] <= 128:
+            skip, y, code, z = steps[4 * i :][:4]
+            pairs.setdefault((x, y), (code, z))
+            i = i + 1 + skip if skip < 128 else nl
+    return pairs
+
+
+def outcomes(pairs):
+    """What each pair leaves, by going on until nothing more settles; a pair that is not in it never does."""
+    settled = {}
+
+    def left_by(x, y):
+        return settled.get((x, y)) if (x, y) in pairs else y
+
+    changed = True
+    while changed:
+        changed = False
+        for (x, y), (code, z) in pairs.items():
+            if (x, y) in settled:
+                continue
+            if code >= 128 or code in (5, 11):
+                w = y
+            elif code in (1, 7):
+                w = left_by(z, y)
+            elif code == 2:
+                w = left_by(x, z)
+            elif code == 3:
+                v = left_by(x, z)
+                w = None if v is None else left_by(v, y)
+            else:
+                w = z
+            if w is not None:
+                settled[x, y] = w
+                changed = True
+    return settled
+
+
+def expected(copy, questions):
+    pairs = program(copy)
+    settled = outcomes(pairs)
+    loops = sorted(set(pairs) - set(settled))
+    smallest = f"LOOP {loops[0][0]} {loops[0][1]}" if loops else "NO LOOP"
+    yield "TOO FEW" if len(pairs) > ROOM else smallest
+    yield smallest
+    for x, y in questions:
+        if x > LEFT_BOUNDARY:
+            yield f"{x} {y} OUT OF RANGE"
+        elif (x, y) in pairs:
+            yield f"{x} {y} {settled.get((x, y), 'LOOPS')}"
+        else:
+            yield f"{x} {y} {y}"
+
+
+def made():
+    """Files made for one thing each."""
+    a, b, c, d, e = range(65, 70)
+    over = 200
+    for name, code, z in (("leaves z", 0, c), ("loops right", 2, b), ("loops left", 1, a), ("kern like", 5, a), ("both", 3, c)):
+        yield f"sole step: {name}", font([step(b, code, z)], {a: 0})
+    yield "a chain", font([step(y, 2, y + 1, 0) for y in range(99)] + [step(99, 0, 7)], {a: 0})
+    yield "the same pair twice in turn", font([step(b, 3, c, 0), step(c, 1, d), step(c, 0, e), step(b, 2, c, 0), step(c, 1, d)], {a: 0, d: 2, e: 3})
+    yield "the first step for a code wins", font([step(b, 0, c, 0), step(b, 2, b)], {a: 0})
+    yield "a loop of the left boundary alone", font([step(b, 2, c, 0), step(c, 2, b)], {}, boundary=0)
+    yield "a loop that a step over 128 would make", font([step(c, 0, c, 0), step(b, 2, b, over)], {a: 0})
+    yield "a loop that a step over 128 would unmake", font([step(d, 3, b, 0), step(b, 0, e, over), step(d, 1, b)], {a: 0, b: 2})
+    yield "code 7 goes on, code 6 does not", font([step(b, 7, c, 0), step(c, 6, a), step(b, 6, d)], {a: 0, c: 2})
+    row = [step(y, 0, y, 0) for y in range(249)] + [step(249, 0, 0)]
+    yield "5000 pairs", font(row, {x: 0 for x in range(20)})
+    yield "5001 pairs", font(row, {x: 249 if x == 20 else 0 for x in range(21)})
+    yield "2^60 literal steps", doubling(60)
+
+
+def programs(rules):
+    """A file with these programs: each code's steps as (right, code, z), reached by a redirect."""
+    firsts, steps = [], []
+    for run in rules.values():
+        firsts.append(redirect(len(rules) + len(steps)))
+        steps += [step(*rule, skip=0) for rule in run[:-1]] + [step(*run[-1])]
+    return font(firsts + steps, {c: i for i, c in enumerate(rules)})
+
+
+def doubling(levels):
+    """A pair at each level whose rewriting goes twice, in turn, through that of the level below: left codes a, t, r and v of each level, right codes y, z and u."""
+    y, z, u = 253, 254, 255
+    rules = {0: [(y, 0, 2)]}
+    for k in range(1, levels + 1):
+        a, t, r, v = 4 * k, 4 * k + 1, 4 * k + 2, 4 * k + 3
+        rules[a] = [(y, 3, z), (z, 1, t)]
+        rules[t] = [(z, 3, y), (u, 2, y), (y, 1, a - 4)]
+        rules[r - 4] = [(z, 0, v), (y, 0, r)]
+        rules[v] = [(y, 3, u), (u, 1, t)]
+    return programs(rules)
+
+
+def deepest():
+    """Every pair of the codes 0 to 254 and 0 to 255 being settled at once: up through the right codes of an even left code, down through those of an odd one."""
+    firsts = [redirect(256 + 383 * (x % 2) + x // 2) for x in range(256)]
+    up = [step(255, 1, 2 * i + 1, 127 - i) for i in range(128)] + [step(y, 2, y + 1, 0) for y in range(255)]
+    down = [step(0, 1, 2 * i + 2 & 255, 127 - i) for i in range(128)] + [step(y, 2, y - 1, 0) for y in range(255, 0, -1)]
+    up[-1] = step(254, 2, 255)
+    down[-1] = step(1, 2, 0)
+    return font(firsts + up + down, {x: x for x in range(255)})
+
+
+def random_programs(count):
+    for seed in range(count):
+        r = random.Random(seed)
+        few = r.sample(range(256), r.randrange(2, 7))
+        n = r.randrange(1, 30)
+        steps = [step(r.choice(few), r.choice((0, 1, 1, 2, 2, 3, 3, 5, 6, 7, 11, 128)), r.choice(few), r.choice((0, 0, 0, 1, 2, 128, 128, 254))) for _ in range(n)]
+        yield f"random {seed}", font(steps, {c: r.randrange(n) for c in few}, r.choice((None, r.randrange(n))))
+
+
+def within_8_mb():
+    resource.setrlimit(resource.RLIMIT_STACK, (8 << 20, resource.getrlimit(resource.RLIMIT_STACK)[1]))
+
+
+def ask(file, questions):
+    """The program's answers, within a stack of 8 MB."""
+    junk = b"".join(struct.pack(">HB", x, y) for x, y in questions)
+    run = subprocess.run([ROOT / "nyelgomir", "pairs"], input=file + junk, stdout=subprocess.PIPE, check=True, preexec_fn=within_8_mb)
+    return run.stdout.decode().splitlines()
+
+
+def main():
+    files = loops = 0
+    damaged = ((name, file) for name, file in damage.files(4, 200) if not tftopl.Reading(file).refusal)
+    for source in (made(), random_programs(200), damaged):
+        for name, file in source:
+            lf = struct.unpack(">H", file[:2])[0]
+            file = file[: 4 * lf]
+            copy = bytes(tftopl.Reading(file).tfm)
+            pairs = sorted(program(copy))
+            questions = random.Random(name).sample(pairs, min(20, len(pairs))) + [(65, 66), (256, 0), (257, 0)]
+            wanted = list(expected(copy, questions))
+            found = ask(file, questions)
+            if found != wanted:
+                sys.exit(f"pairs: {name}: wanted and found: {[(w, f) for w, f in zip(wanted, found) if w != f][:3]}")
+            files += 1
+            loops += wanted[1] != "NO LOOP"
+    deep = deepest()
+    found = ask(deep, [(0, 0)])
+    if len(program(deep)) != 65280 or found[:2] != ["TOO FEW", "NO LOOP"]:
+        sys.exit(f"pairs: deepest: {len(program(deep))} pairs, {found}")
+    print(f"pairs: {files} files, {loops} of them looping, and 65,280 pairs settled at once in {len(deep)} bytes")
+
+
+if __name__ == "__main__":
+    main()
