@@ -17,7 +17,7 @@ use Rattle.gather.specs.declared.PairOutcome.the-variants.{OutOfRange, T
 not-below : {S : ℕ → ℕ → Step} {x y u v : ℕ} → SmallestLoop S x y → SmallestLoop S u v → x * 256 + y < u * 256 + v → ⊥
 not-below {x = x} {y} f g h = let w = g .smallest x y (f .right-code) h in f .loops (w .0) (w .1)
 
-one-smallest : (S : ℕ → ℕ → Step) (n : ℕ) (r q : Smallest) → SmallestAs S n r → SmallestAs S n q → r ≡ q
+pub one-smallest : (S : ℕ → ℕ → Step) (n : ℕ) (r q : Smallest) → SmallestAs S n r → SmallestAs S n q → r ≡ q
 one-smallest S n TooFew TooFew f g = refl
 one-smallest S n TooFew (Loop u v) f g = absurd (omega (arith, g .0))
 one-smallest S n TooFew NoLoop f g = absurd (omega (arith, g .0))

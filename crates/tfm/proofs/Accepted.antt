@@ -14,39 +14,40 @@ use Rattle.tfm.specs.Subfiles.{countOf, startOf, tableOf}
 use Rattle.tfm.specs.declared.Layout.{Layout}
 
 -- a chain of tests that gives 0: the first test fails, and the rest gives 0
-fails : (b : Bool) (n m : ℕ) → first b (suc n) m ≡ 0 → b ≡ false
+pub fails : (b : Bool) (n m : ℕ) → first b (suc n) m ≡ 0 → b ≡ false
 unfolding first
 fails true n m e = absurd (omega arith)
 fails false n m e = refl
 
-rest : (b : Bool) (n m : ℕ) → first b (suc n) m ≡ 0 → m ≡ 0
+pub passed : (b : Bool) (n m : ℕ) → first b (suc n) m ≡ 0 → m ≡ 0
 unfolding first
-rest true n m e = absurd (omega arith)
-rest false n m e = e
+passed true n m e = absurd (omega arith)
+passed false n m e = e
 
 not-false : (b : Bool) → not b ≡ false → b ≡ true
 not-false true e = refl
 not-false false e = absurd (true≢false e)
 
-pub record Accepted (f : List ℕ) (l : Layout) : Type 0 where
+pub record Accepted (f : List ℕ) (l : Layout) (later : ℕ) : Type 0 where
   pub long : 4 * l .lf ≤ length f
   pub sum : l .lf ≡ words l
+  pub rest : later ≡ 0
 
-pub accepted : (f : List ℕ) (l : Layout) (later : ℕ) → numberOf f l later ≡ 0 → Accepted f l
+pub accepted : (f : List ℕ) (l : Layout) (later : ℕ) → numberOf f l later ≡ 0 → Accepted f l later
 unfolding numberOf layoutNumber
 accepted f l later e1 =
-    let e2 = rest _ _ _ e1 in
-    let e3 = rest _ _ _ e2 in
-    let e4 = rest _ _ _ e3 in
-    let e5 = rest _ _ _ e4 in
-    let e6 = rest _ _ _ e5 in
-    let e7 = rest _ _ _ e6 in
-    let e8 = rest _ _ _ e7 in
-    let e9 = rest _ _ _ e8 in
-    let e10 = rest _ _ _ e9 in
-    let e11 = rest _ _ _ e10 in
-    let e12 = rest _ _ _ e11 in
-    record { long = ltb-false _ _ (fails _ _ _ e5); sum = eqb-true _ _ (not-false _ (fails _ _ _ e12)) }
+    let e2 = passed _ _ _ e1 in
+    let e3 = passed _ _ _ e2 in
+    let e4 = passed _ _ _ e3 in
+    let e5 = passed _ _ _ e4 in
+    let e6 = passed _ _ _ e5 in
+    let e7 = passed _ _ _ e6 in
+    let e8 = passed _ _ _ e7 in
+    let e9 = passed _ _ _ e8 in
+    let e10 = passed _ _ _ e9 in
+    let e11 = passed _ _ _ e10 in
+    let e12 = passed _ _ _ e11 in
+    record { long = ltb-false _ _ (fails _ _ _ e5); sum = eqb-true _ _ (not-false _ (fails _ _ _ e12)); rest = passed _ _ _ e12 }
 
 -- the subfiles follow one another, and the last ends with the words that the sizes ask for
 pub ends : (l : Layout) → startOf l 10 ≡ words l

@@ -1,0 +1,4 @@
+-- The laws of `judge` that belong to no one function
+pub mod Cases
+pub mod Places
+pub mod Once

@@ -1,0 +1,20 @@
+-- The tables of the copy.
+use Rattle.judge.specs.Judge.{programIn}
+use borrow.Author.Needs.{needs}
+use Rattle.judge.proofs.smallest_in.Statement.{statement}
+use Rattle.judge.proofs.smallest_in.Tie as tie
+
+returns : tie.Need-returns
+unfolding programIn
+returns c = (
+  rw (
+    ← c .before .before .before .before .before .table .ensures .holds,
+    ← c .before .before .before .before .table2 .ensures .holds,
+  ) (c .before .before .smallest-loop .ensures .0),
+  c .before .before .smallest-loop .ensures .1,
+)
+
+pub smallest-in-spec : {M : Type 1} → statement M
+smallest-in-spec =
+    tie.close
+    (tie.spec (λ c κs. search needs) (λ c κs. search needs) (λ c κs. search needs) (λ c. search needs) returns)
