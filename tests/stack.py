@@ -1,6 +1,7 @@
 #!/usr/bin/env python3
-"""Measures stack, as the least limit in KiB with which a program answers: `pairs` for one pair and for 65,280 being settled at once, and `judged` for a file that is refused at once and for one that is judged."""
+"""Measures stack, as the least limit in KiB with which a program answers: `pairs` for one pair and for 65,280 being settled at once, and `judged` for a file of one pair, less the buffers that `judged` itself has on the stack."""
 import platform
+import re
 import resource
 import struct
 import subprocess
@@ -27,6 +28,12 @@ def least(program, file):
     return high
 
 
+def own_buffers():
+    """The bytes of the arrays in the source of `judged`."""
+    source = (pairs.ROOT / "crates" / "judged" / "src" / "main.rt").read_text()
+    return sum(int(bits) // 8 * int(length) for bits, length in re.findall(r"\[\d+u(\d+); (\d+)\]", source))
+
+
 def main():
     if platform.machine() != "x86_64":
         sys.exit("stack: under an emulator the stack is not the program's own")
@@ -34,8 +41,8 @@ def main():
     shallow, deep = least("pairs", sound), least("pairs", pairs.deepest())
     print(f"stack: {shallow} KiB for one pair, {deep} KiB for 65,280 at once: {(deep - shallow) * 1024 / 65280:.0f} bytes a level")
     asked = struct.pack(">4I", 60000, 100, 100, judged.VERDICT)
-    refused, accepted = least("judged", bytes(2) + asked), least("judged", sound + asked)
-    print(f"stack: {refused} KiB for a file that is refused at once, {accepted} KiB for one that is judged: {accepted - refused} KiB for the inspection")
+    whole, own = least("judged", sound + asked), own_buffers()
+    print(f"stack: {whole} KiB to judge, {own} bytes of them buffers of the program: at most {whole - own // 1024} KiB for the inspection, with what a process has at its start")
 
 
 main()
