@@ -98,6 +98,10 @@ puts-keeps p (b ∷ s) = puts-keeps (put1 p b) s ∙ put-keeps p b
 pub keeps : {l m : List ℕ} {at r : ℕ} {t : Text} → Wrote (pen l at) t (pen m r) → length m ≡ length l
 keeps {l} {m} {at} {r} {t} e = ap (λ (p : Pen). length (held p)) (e .is ∙ run-flat (pen l at) t) ∙ puts-keeps (pen l at) (flat t)
 
+-- what did not fit stays so, whatever else is written
+pub stuck : {l : List ℕ} {to : ℕ} {t : Text} → to ≡ length l + 1 → Wrote (pen l to) t (pen l to)
+stuck {l} {to} {t} e = record { is = rw e (sym (run-flat (pen l (length l + 1)) t ∙ puts-past (flat t) l)) }
+
 pub ended : {l m : List ℕ} {r : ℕ} {t : Text} → Wrote (pen l 0) t (pen m r) → Ended t l m r
 ended {l} {m} {r} {t} e =
     elim (decLe (length (flat t)) (length l)) [

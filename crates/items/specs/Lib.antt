@@ -1,0 +1,2 @@
+-- What the contracts of `items` cite
+pub mod Items
