@@ -81,7 +81,8 @@ pub fn bad_design_size(h: &[u8]) -> bool
     (127 < first) | ((first == 0) & (tfm::byte_of(h, 1, 1) < 16))
 }
 
-fn upper(b: u8) -> u8
+// The letter in upper case.
+pub fn upper(b: u8) -> u8
     ensures { λ r. ⌜ r ≡ upper b ⌝ }
 {
     if b < 97 {
@@ -117,13 +118,15 @@ fn scheme_starts(h: &[u8], l: Layout, text: &[u8]) -> bool
     is_read(l, 0) & (11 <= string_length(h, l, 0)) & same_letters(h, text)
 }
 
-fn math_symbols(h: &[u8], l: Layout) -> bool
+// The scheme is that of a math symbols font.
+pub fn math_symbols(h: &[u8], l: Layout) -> bool
     ensures { λ r. ⌜ r ≡ mathSymbols (now (h .entry)) l ⌝ }
 {
     scheme_starts(h, l, b"TEX MATH SY")
 }
 
-fn math_extension(h: &[u8], l: Layout) -> bool
+// The scheme is that of a math extension font.
+pub fn math_extension(h: &[u8], l: Layout) -> bool
     ensures { λ r. ⌜ r ≡ mathExtension (now (h .entry)) l ⌝ }
 {
     scheme_starts(h, l, b"TEX MATH EX")

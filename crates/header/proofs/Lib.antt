@@ -1,0 +1,2 @@
+-- The laws of `header` that belong to no one function
+mod Letters

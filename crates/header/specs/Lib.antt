@@ -1,0 +1,3 @@
+-- What the contracts of `header` cite
+pub mod Header
+pub mod Parameters
