@@ -7,15 +7,20 @@ from pathlib import Path
 ROOT = Path(__file__).resolve().parent.parent
 FUNCTION = re.compile(r'^pub (?:extern "C" )?fn (\w+)(.*?)\n\{', re.M | re.S)
 MODULE = re.compile(r"^pub mod (\w+);", re.M)
+PASSED_ON = re.compile(r"^pub use (\w+)::(\w+);", re.M)
 
 
 def public(source, path):
-    """The public functions of a file and of its public modules, each with its head."""
+    """The public functions of a file, of its public modules, and those that it passes on of others, each with its head."""
     text = source.read_text()
     for name, head in FUNCTION.findall(text):
         yield f"{path}::{name}", head
     for module in MODULE.findall(text):
         yield from public(source.with_name(module + ".rt"), f"{path}::{module}")
+    for module, name in PASSED_ON.findall(text):
+        for found, head in FUNCTION.findall(source.with_name(module + ".rt").read_text()):
+            if found == name:
+                yield f"{path}::{name}", head
 
 
 def main():

@@ -1,0 +1,4 @@
+-- The laws of `ligatures` that belong to no one function
+mod Labelled
+mod Pieces
+mod Programs

@@ -1,0 +1,3 @@
+-- What the contracts of `ligatures` cite
+pub mod Labels
+pub mod Ligatures
