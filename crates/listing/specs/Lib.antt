@@ -1,0 +1,4 @@
+-- What the contracts of `listing` cite
+pub mod Characters
+pub mod Listing
+pub mod Inside
