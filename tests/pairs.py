@@ -36,25 +36,34 @@ def redirect(target):
     return bytes([254, 0, target >> 8, target & 255])
 
 
-def program(copy):
-    """The steps of the mended program: (left, right) to (code, z)."""
+def ligature_steps(copy):
+    """The lig_kern table of the mended copy."""
     lf, lh, bc, ec, nw, nh, nd, ni, nl, nk, ne, np = struct.unpack(">12H", copy[:24])
-    infos = copy[24 + 4 * lh :]
-    steps = infos[4 * (ec - bc + 1 + nw + nh + nd + ni) :]
-    starts = {}
+    return copy[4 * (6 + lh + ec - bc + 1 + nw + nh + nd + ni) :][: 4 * nl]
+
+
+def starts(copy):
+    """Where the program of each left code of the mended copy starts."""
+    lf, lh, bc, ec, nw, nh, nd, ni, nl, nk, ne, np = struct.unpack(">12H", copy[:24])
+    infos, steps, found = copy[24 + 4 * lh :], ligature_steps(copy), {}
     for c in range(bc, ec + 1):
         info = infos[4 * (c - bc) :][:4]
         if info[2] % 4 == 1:
             r = info[3]
-            starts[c] = int.from_bytes(steps[4 * r + 2 :][:2], "big") if steps[4 * r] > 128 else r
+            found[c] = int.from_bytes(steps[4 * r + 2 :][:2], "big") if steps[4 * r] > 128 else r
     if nl and steps[4 * nl - 4] == 255:
-        starts[LEFT_BOUNDARY] = int.from_bytes(steps[4 * nl - 2 :][:2], "big")
-    pairs = {}
-    for x, i in starts.items():
-        while i < nl and steps[4 * i] <= 128:
+        found[LEFT_BOUNDARY] = int.from_bytes(steps[4 * nl - 2 :][:2], "big")
+    return found
+
+
+def program(copy):
+    """The steps of the mended program: (left, right) to (code, z)."""
+    steps, pairs = ligature_steps(copy), {}
+    for x, i in starts(copy).items():
+        while 4 * i < len(steps) and steps[4 * i] <= 128:
             skip, y, code, z = steps[4 * i :][:4]
             pairs.setdefault((x, y), (code, z))
-            i = i + 1 + skip if skip < 128 else nl
+            i = i + 1 + skip if skip < 128 else len(steps)
     return pairs
 
 

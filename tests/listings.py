@@ -1,0 +1,241 @@
+#!/usr/bin/env python3
+"""The listings of the programs `listings` and `list` beside those of the real tftopl.
+
+tests/listings.py            the stored files beside what tftopl printed for them, on buffers of many sizes too; the list program at its limits;
+                             and, where texlive-binaries is installed, every installed font and 3,000 damaged files
+tests/listings.py --store    store what tftopl prints for the stored files anew
+"""
+import random
+import shutil
+import struct
+import subprocess
+import sys
+import tempfile
+import time
+from collections import Counter
+from pathlib import Path
+
+sys.dont_write_bytecode = True
+import damage
+import judged
+import pairs
+import tftopl
+
+ROOT = judged.ROOT
+SAMPLES = ROOT / "samples"
+INSTALLED = [Path("/usr/share") / folder for folder in ("texmf", "texmf-dist", "texlive/texmf-dist")]
+LOOP = b"(INFINITE LIGATURE LOOP MUST BE BROKEN!)"
+WHOLE = (131080, 262144, 65800, 600000)
+TFTOPL_PAIRS = 32579
+DAMAGED = 3000
+OVER_128 = "a step over 128 ends a program"
+
+
+def ask(requests):
+    """The answers of one process to files on lent sizes of copy, findings, pairs and listing: the line's words, the findings, the listing."""
+    asked = b"".join(struct.pack(">5I", len(file), *sizes) + file for file, sizes in requests)
+    run = subprocess.run([ROOT / "nyelgomir", "listings"], input=asked, stdout=subprocess.PIPE, check=True, preexec_fn=pairs.within_8_mb)
+    out, place = run.stdout, 0
+    for _ in requests:
+        end = out.index(b"\n", place)
+        words, place = out[place:end].decode().split(), end + 1
+        parts = []
+        for length in (0, 0) if words[0] == "REFUSED" else map(int, words[1:3]):
+            parts.append(out[place : place + length])
+            place += length
+        yield words, *parts
+    if place != len(out):
+        sys.exit("listings: more is printed than was asked for")
+
+
+def real(file):
+    """What the real tftopl lists."""
+    with tempfile.NamedTemporaryFile(suffix=".tfm") as font:
+        font.write(file)
+        font.flush()
+        return subprocess.run(["tftopl", font.name], stdout=subprocess.PIPE, stderr=subprocess.DEVNULL).stdout
+
+
+def meets_over_128(copy):
+    """Whether a program comes to a step over 128: 003 enters it as a pair, and 01 ends there."""
+    steps = pairs.ligature_steps(copy)
+    for i in pairs.starts(copy).values():
+        while 4 * i < len(steps):
+            skip = steps[4 * i]
+            if skip > 128:
+                return True
+            i = i + 1 + skip if skip < 128 else len(steps)
+    return False
+
+
+def rule(reading, verdict, findings, text, theirs):
+    """The class of a file: as tftopl lists it, or the departure of 01 by which the listing differs; None where neither holds."""
+    if reading.refusal == 6:
+        return "lf below 6"
+    if (not reading.refusal or reading.refusal > 8) and reading.nl > 32510:
+        return "table sizes"
+    if reading.refusal:
+        return "refused" if verdict == "REFUSED" and not theirs else None
+    if reading.bc == 256:
+        return "bc = 256"
+    copy = bytes(reading.tfm)
+    if len(pairs.program(copy)) >= TFTOPL_PAIRS:
+        return "table sizes"
+    loop, looping = theirs.endswith(LOOP), verdict == "LOOPING"
+    if loop != looping:
+        before = text.removesuffix(LOOP + b"\n") if looping else theirs.removesuffix(LOOP)
+        return OVER_128 if (theirs if looping else text).startswith(before) and meets_over_128(copy) else None
+    if looping:
+        return "newline after the loop line" if text == theirs + b"\n" else None
+    tags = {tag for tag, _, _, _ in struct.iter_unpack(">BHHH", findings)} - set(judged.REMARKS)
+    if tags == {17}:
+        return "17 counts for the verdict" if text == theirs + damage.CHANGED else None
+    return "as tftopl" if text == theirs else None
+
+
+def compare(name, cases):
+    """Cases of a name, a file and tftopl's listing; the number of each class is printed."""
+    met, cases = Counter(), list(cases)
+    answers = ask([(file, WHOLE) for _, file, _ in cases])
+    for (case, file, theirs), (words, findings, text) in zip(cases, answers):
+        kind = rule(tftopl.Reading(file), words[0], findings, text, theirs)
+        if kind is None:
+            sys.exit(f"listings: {case} is not listed as tftopl lists it")
+        met[kind] += 1
+    print(f"listings: {len(cases)} {name} files: {damage.count(met)}")
+
+
+def stored():
+    """The stored fonts and damaged files, with what tftopl printed for them."""
+    for folder in (SAMPLES, damage.STORED):
+        for path in sorted(folder.glob("*.tfm")):
+            yield path, path.read_bytes()
+
+
+def store():
+    for path, file in stored():
+        path.with_suffix(".pl").write_bytes(real(file))
+
+
+def with_listing():
+    for path, file in stored():
+        yield path.name, file, path.with_suffix(".pl").read_bytes()
+
+
+def published():
+    paths = {path.resolve() for folder in INSTALLED for path in folder.rglob("*.tfm")}
+    for path in sorted(paths):
+        file = path.read_bytes()
+        yield path.name, file, real(file)
+
+
+def damaged():
+    for name, file in damage.files(6, DAMAGED):
+        yield name, file, real(file)
+
+
+def wanted(judge, text, sizes):
+    """The line for these lent sizes, by 01: the answer, and the check sums of the buffers."""
+    needs = (*judge.needs(), len(text))
+    number = judge.refusal or (13 if sizes[0] < needs[0] else 0)
+    if number:
+        after = [[judged.FILL] * n for n in sizes]
+    elif short := [k for k in (2, 1, 3) if sizes[k] < needs[k]]:
+        number = {2: 14, 1: 15, 3: 16}[short[0]]
+        after = [[0] * n for n in sizes]
+    else:
+        after = [[*held, *[judged.FILL] * (n - len(held))] for held, n in zip((judge.copy, judge.records, b"", text), sizes)]
+        after[2] = [0] * sizes[2]
+    answer = f"REFUSED {number}" if number else f"{judge.verdict} {len(judge.records)} {len(text)}"
+    return " ".join((answer, *map(judged.check_sum, after))).split()
+
+
+def check_sizes():
+    """The stored files on buffers of the needed size, of one less, of one more and of none."""
+    met, total = Counter(), 0
+    cases = list(stored())
+    whole = list(ask([(file, WHOLE) for _, file in cases]))
+    for (path, file), (_, _, text) in zip(cases, whole):
+        judge, r = judged.Judge(file), random.Random(path.name)
+        needs = (*judge.needs(), len(text))
+        sizes = [needs, (0, 0, 0, 0), tuple(n + r.randrange(1, 40) for n in needs)]
+        for k, n in enumerate(needs):
+            sizes += [(*needs[:k], size, *needs[k + 1 :]) for size in (0, max(n - 1, 0), n + 1)]
+        for size, (words, _, _) in zip(sizes, ask([(file, size) for size in sizes])):
+            if words != (want := wanted(judge, text, size)):
+                sys.exit(f"listings: {path.name} on {size}: wanted {want}, found {words}")
+            met[" ".join(words[:2]) if words[0] == "REFUSED" else words[0]] += 1
+            total += 1
+    print(f"listings: {total} answers on buffers of many sizes: {damage.count(met)}")
+
+
+def run_list(file):
+    start = time.monotonic()
+    run = subprocess.run([ROOT / "nyelgomir", "list"], input=file, stdout=subprocess.PIPE, check=True)
+    return run.stdout, time.monotonic() - start
+
+
+def header_font(words, check_sum):
+    """A font of no characters with so many words of header."""
+    header = [check_sum, 10 << 20, *[0] * (words - 2)]
+    return struct.pack(">12H", 6 + words + 4, words, 1, 0, 1, 1, 1, 1, 0, 0, 0, 0) + struct.pack(f">{words}I", *header) + bytes(16)
+
+
+def listed_in(length):
+    """A font whose listing has that many bytes: the lines of header words, and digits of the check sum for the last few."""
+    words = 2
+    while True:
+        short = length - len(run_list(header_font(words, 0))[0])
+        if short < 11:
+            return header_font(words, 8**short)
+        words = max(18, words + 1, words + (short - 400) // 20) if words < 18 else words + max(1, short // 22)
+
+
+def check_limits():
+    """The list program at its limits: 65,536 bytes of input and of listing, one more of each, and a listing of a hundred megabytes that is not printed."""
+    sample = (SAMPLES / "a.tfm").read_bytes()
+    text = (SAMPLES / "a.pl").read_bytes()
+    full = listed_in(65536)
+    for file, want in (
+        (sample, text),
+        (sample + bytes(65536 - len(sample)), text),
+        (sample + bytes(65537 - len(sample)), b"REFUSED 13\n"),
+        (b"\xff" * 65537, b"REFUSED 13\n"),
+        (b"", b"REFUSED 1\n"),
+    ):
+        if run_list(file)[0] != want:
+            sys.exit(f"list: {len(file)} bytes of input are not answered {want[:20]}")
+    if len(run_list(full)[0]) != 65536:
+        sys.exit("list: a listing of 65,536 bytes is not printed")
+    more = bytearray(full)
+    more[24:28] = struct.pack(">I", 8 * struct.unpack(">I", full[24:28])[0])
+    if run_list(bytes(more))[0] != b"REFUSED 16\n":
+        sys.exit("list: a listing of 65,537 bytes is not refused")
+    huge, took = run_list(shared_program(15900))
+    if huge != b"REFUSED 16\n" or took > 1:
+        sys.exit(f"list: 256 characters that share 15,900 steps are answered {huge[:20]} in {took:.2f} s")
+    print(f"list: its limits hold; 256 characters that share 15,900 steps are refused in {took * 1000:.0f} ms")
+
+
+def shared_program(steps):
+    """256 characters with one program of kerns with 16 characters, over and over."""
+    infos = b"\x01\x00\x01\x00" * 256
+    program = b"".join(bytes((0, i % 16, 128, 0)) for i in range(steps - 1)) + bytes((128, 0, 128, 0))
+    lengths = bytes(4) + struct.pack(">I", 1 << 19) + bytes(12)
+    sizes = 6 + 2 + 256 + 5 + steps + 1, 2, 0, 255, 2, 1, 1, 1, steps, 1, 0, 0
+    return struct.pack(">12H", *sizes) + struct.pack(">2I", 0, 10 << 20) + infos + lengths + program + bytes(4)
+
+
+def main():
+    compare("stored", with_listing())
+    check_sizes()
+    check_limits()
+    if shutil.which("tftopl"):
+        compare("published", published())
+        compare("damaged", damaged())
+    else:
+        print("listings: TFTOPL IS NOT INSTALLED: ONLY THE STORED FILES WERE COMPARED WITH IT")
+
+
+if __name__ == "__main__":
+    store() if "--store" in sys.argv else main()
