@@ -1,5 +1,5 @@
 #!/usr/bin/env python3
-"""Measures stack, as the least limit in KiB with which a program answers: `pairs` for one pair and for 65,280 being settled at once, and `judged` for a file of one pair, less the buffers that `judged` itself has on the stack."""
+"""Measures stack, as the least limit in KiB with which a program answers: `pairs` for one pair and for 65,280 being settled at once, and `judged` and `list` for a file of one pair, less the buffers that they themselves have on the stack."""
 import platform
 import re
 import resource
@@ -28,9 +28,9 @@ def least(program, file):
     return high
 
 
-def own_buffers():
-    """The bytes of the arrays in the source of `judged`."""
-    source = (pairs.ROOT / "crates" / "judged" / "src" / "main.rt").read_text()
+def own_buffers(program):
+    """The bytes of the arrays in the source of a program."""
+    source = (pairs.ROOT / "crates" / program / "src" / "main.rt").read_text()
     return sum(int(bits) // 8 * int(length) for bits, length in re.findall(r"\[\d+u(\d+); (\d+)\]", source))
 
 
@@ -41,8 +41,9 @@ def main():
     shallow, deep = least("pairs", sound), least("pairs", pairs.deepest())
     print(f"stack: {shallow} KiB for one pair, {deep} KiB for 65,280 at once: {(deep - shallow) * 1024 / 65280:.0f} bytes a level")
     asked = struct.pack(">4I", 60000, 100, 100, judged.VERDICT)
-    whole, own = least("judged", sound + asked), own_buffers()
-    print(f"stack: {whole} KiB to judge, {own} bytes of them buffers of the program: at most {whole - own // 1024} KiB for the inspection, with what a process has at its start")
+    for program, file, what in (("judged", sound + asked, "the inspection"), ("list", sound, "the listing")):
+        whole, own = least(program, file), own_buffers(program)
+        print(f"stack: {whole} KiB for {program}, {own} bytes of them buffers of the program: at most {whole - own // 1024} KiB for {what}, with what a process has at its start")
 
 
 main()

@@ -20,17 +20,18 @@ use Rattle.listing.specs.Listing as to
 use Rattle.listing.specs.Listing.{propertyList, listingText, says, ListedAs}
 use Rattle.listing.specs.Inside.{numberIn, verdictIn, saying, itemsIn}
 
-abbrev number : Answer → ℕ
+-- the parts of an answer
+abbrev pub number : Answer → ℕ
 number (answer n v k) = n
+
+abbrev pub verdict : Answer → Verdict
+verdict (answer n v k) = v
 
 abbrev isVerdict : Verdict → Bool
 isVerdict noVerdict = false
 isVerdict clean = true
 isVerdict mendedSo = true
 isVerdict looping = true
-
-abbrev verdict : Answer → Verdict
-verdict (answer n v k) = v
 
 is-verdict : (b : Bool) (loop : Loop) → isVerdict (verdictOf b loop) ≡ true
 is-verdict true noLoop = refl

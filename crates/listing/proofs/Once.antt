@@ -5,15 +5,10 @@ use mathlib.Core.Path.{_≡_, refl, ap}
 use mathlib.Core.List.{List}
 use lib.ListN.{length}
 use Rattle.tfm.specs.declared.Layout.{Layout}
-use Rattle.judge.specs.Judge.{Answer, answer, Verdict, Judged}
+use Rattle.judge.specs.Judge.{Answer, answer, Judged}
 use Rattle.judge.proofs.Once.{once-judged}
+use Rattle.listing.proofs.Cases.{number, verdict}
 use Rattle.listing.specs.Listing.{listingText, Says, ListedAs, refused, too-long, listed}
-
-abbrev number : Answer → ℕ
-number (answer n v k) = n
-
-abbrev verdict : Answer → Verdict
-verdict (answer n v k) = v
 
 abbrev findings : Answer → ℕ
 findings (answer n v k) = k
