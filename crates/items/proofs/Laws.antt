@@ -68,20 +68,3 @@ apart i k m e h = rw e h
 
 -- a branch whose arms print items: `search choices depth 9`
 pub ruleset choices = (item-then, item-else, no-item, test-true, test-false, eq-eqb, ne-eqb, lt-ltb, le-ltb, le-leb, lt-leb, apart)
-
--- A loop that jumps: whatever writes what is left, t from p, has written the whole, T from p₀
-pub record Left (p₀ : Pen) (v : ℕ) (T : Items) (p : Pen) (t : Items) : Type 0 where
-  pub goes : (q : Pen) → Listed p v t q → Listed p₀ v T q
-
-pub left-all : {p : Pen} {v : ℕ} {T : Items} → Left p v T p T
-left-all = record { goes = λ q h. h }
-
--- one part more
-pub left-more : {p₀ p q : Pen} {v : ℕ} {T a t u : Items} {b : Bool} → Left p₀ v T p (choose b (a ▸ t) u) → b ≡ true → Listed p v a q → Left p₀ v T q t
-left-more w e h = record { goes = λ s g. w .goes s (item-then e (after g h)) }
-
-pub left-none : {p₀ p : Pen} {v : ℕ} {T t : Items} {b : Bool} → Left p₀ v T p (choose b t empty) → b ≡ false → Listed p₀ v T p
-left-none {p = p} w e = w .goes p (item-else e no-item)
-
-pub left-done : {p₀ p : Pen} {v : ℕ} {T : Items} → Left p₀ v T p empty → Listed p₀ v T p
-left-done {p = p} w = w .goes p no-item

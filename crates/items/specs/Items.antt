@@ -1,7 +1,8 @@
 -- A property list as a tree, and its text as 003 lays it out: three spaces a level.
-use Prim.Native.Nat.{ℕ, _+_}
+use Prim.Native.Nat.{ℕ, zero, suc, _+_}
 use mathlib.Core.Bool.{Bool}
 use mathlib.Core.List.{List, [], _∷_}
+use lib.Dec.{ltb}
 use Rattle.lent.specs.Write.{Pen, Text, none, byte, lit, _▹_, when, each, codes, Wrote}
 use Rattle.ink.specs.Ink as ink
 use Rattle.decimal.specs.Text.{textOf}
@@ -31,6 +32,11 @@ pub data Items : Type 0 where
   _▸_ : Items → Items → Items
   choose : Bool → Items → Items → Items
   loop : ℕ → (ℕ → Items) → Items
+
+-- the parts from i on, each where `next` leads from the one before, up to n; k are enough
+unfoldable pub jumps : (ℕ → Items) → (ℕ → ℕ) → ℕ → ℕ → ℕ → Items
+jumps part next n zero i = empty
+jumps part next n (suc k) i = choose (ltb i n) (part i ▸ jumps part next n k (next i)) empty
 
 abbrev pub withWords : Text → List Word → Text
 withWords t [] = t

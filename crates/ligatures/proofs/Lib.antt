@@ -1,4 +1,3 @@
 -- The laws of `ligatures` that belong to no one function
 mod Labelled
-mod Pieces
-mod Programs
+mod Ways

@@ -10,7 +10,7 @@ use Rattle.lent.specs.Write.{codes}
 use Rattle.tfm.specs.Characters.{byteOf}
 use Rattle.tfm.specs.Lengths.{wordOf}
 use Rattle.program.specs.Steps.{addressOf, nextOf}
-use Rattle.items.specs.Items.{raw, code, dec, real, Items, empty, leaf, group, _▸_, choose, loop}
+use Rattle.items.specs.Items.{raw, code, dec, real, Items, empty, leaf, group, _▸_, choose, loop, jumps}
 use Rattle.ligatures.specs.Labels.{labelItems}
 
 -- §69: the right boundary character
@@ -88,28 +88,25 @@ unfoldable pub pieceEnd : List ℕ → ℕ → ℕ → ℕ
 pieceEnd m nl i = cond (eqb (getD m i 0) 0) (runEnd m (nl - (i + 1)) (i + 1)) (i + 1)
 
 module _ (letters : Bool) (s kerns m starts : List ℕ) (nl : ℕ) where
-  -- the pieces from step i on; k are enough
-  unfoldable pub pieces : ℕ → ℕ → Items
-  pieces zero i = empty
-  pieces (suc k) i =
-      choose (ltb i nl)
-      (piece letters s kerns m starts i (pieceEnd m nl i) ▸ pieces k (pieceEnd m nl i))
-      empty
+  abbrev pub pieceAt : ℕ → Items
+  pieceAt i = piece letters s kerns m starts i (pieceEnd m nl i)
+
+  -- §71: the steps, piece by piece
+  abbrev pub pieces : Items
+  pieces = jumps pieceAt (pieceEnd m nl) nl nl 0
 
   -- §66: the table
   unfoldable pub ligtable : Items
-  ligtable = choose (eqb nl 0) empty (group (codes "LIGTABLE") [] (pieces nl 0))
+  ligtable = choose (eqb nl 0) empty (group (codes "LIGTABLE") [] pieces)
 
 -- §83: the step after step i
 unfoldable pub following : List ℕ → ℕ → ℕ → ℕ
 following s nl i = cond (leb 128 (byteOf s i 0)) nl (nextOf s i)
 
 module _ (letters : Bool) (s kerns : List ℕ) (nl : ℕ) where
-  -- the program from step i on; k steps are enough
-  unfoldable pub programFrom : ℕ → ℕ → Items
-  programFrom zero i = empty
-  programFrom (suc k) i =
-      choose (ltb i nl) (stepItem letters s kerns i ▸ programFrom k (following s nl i)) empty
+  -- the program from step i on
+  abbrev pub programFrom : ℕ → Items
+  programFrom i = jumps (stepItem letters s kerns) (following s nl) nl nl i
 
   unfoldable pub programComment : ℕ → Items
-  programComment i = group (codes "COMMENT") [] (programFrom nl i)
+  programComment i = group (codes "COMMENT") [] (programFrom i)

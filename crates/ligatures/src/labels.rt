@@ -1,7 +1,6 @@
 // Where programs start, and the labels of a step.
 use tfm::Layout;
 ghost use mathlib.Core.Path.{_≡_};
-ghost use Prim.Native.Nat.{_<_};
 ghost use Rattle.lent.specs.Fold.{iterate};
 ghost use Rattle.lent.specs.Write.{pen};
 ghost use Rattle.items.specs.Items.{loop, Listed};
@@ -71,29 +70,10 @@ fn put_boundary_label(out: &mut [u8], to: usize, starts: &[u32], i: u32) -> usiz
     }
 }
 
-fn put_each_label(out: &mut [u8], to: usize, letters: bool, starts: &[u32], i: u32) -> usize
+// The labels of step i.
+pub fn put_each_label(out: &mut [u8], to: usize, letters: bool, starts: &[u32], i: u32) -> usize
     ensures { λ r. ⌜ Listed (pen (now (out .entry)) to) 1 (labelItems letters (now (starts .entry)) i) (pen (now (out .exit)) r) ⌝ }
 {
     let to = put_boundary_label(out, to, starts, i);
     put_code_labels(out, to, letters, starts, i)
-}
-
-// The labels of step i: the codes are searched only where the step carries one.
-pub fn put_labels(
-    out: &mut [u8],
-    to: usize,
-    letters: bool,
-    starts: &[u32],
-    carries: &[u8],
-    i: u32,
-) -> usize
-    requires { ⌜ now carries ≡ labelled (now starts) ⌝ }
-    ensures { λ r. ⌜ Listed (pen (now (out .entry)) to) 1 (labelItems letters (now (starts .entry)) i) (pen (now (out .exit)) r) ⌝ }
-{
-    if i < 32768 {
-        if lent::at(carries, i as usize) == 0 {
-            return to;
-        }
-    }
-    put_each_label(out, to, letters, starts, i)
 }

@@ -8,7 +8,7 @@ ghost use mathlib.Core.List.{[]};
 ghost use Prim.Native.Nat.{_+_, _-_, _<_, _≤_};
 ghost use Rattle.lent.specs.Write.{pen, codes};
 ghost use Rattle.items.specs.Items.{group, loop, Listed};
-ghost use Rattle.ligatures.specs.Labels.{labelled};
+ghost use Rattle.ligatures.specs.Labels.{labelled, labelItems};
 ghost use Rattle.ligatures.specs.Ligatures.{boundaryItem, accessibleItem, unusedStep, unused, piece, runEnd, pieceEnd, pieces, ligtable, following, programFrom, programComment};
 
 pub fn put_boundary(out: &mut [u8], to: usize, letters: bool, s: &[u8]) -> usize
@@ -20,6 +20,26 @@ pub fn put_boundary(out: &mut [u8], to: usize, letters: bool, s: &[u8]) -> usize
     } else {
         to
     }
+}
+
+// The labels of step i: the codes are searched only where the step carries one.
+fn put_labels(
+    out: &mut [u8],
+    to: usize,
+    letters: bool,
+    starts: &[u32],
+    carries: &[u8],
+    i: u32,
+) -> usize
+    requires { ⌜ now carries ≡ labelled (now starts) ⌝ }
+    ensures { λ r. ⌜ Listed (pen (now (out .entry)) to) 1 (labelItems letters (now (starts .entry)) i) (pen (now (out .exit)) r) ⌝ }
+{
+    if i < 32768 {
+        if lent::at(carries, i as usize) == 0 {
+            return to;
+        }
+    }
+    labels::put_each_label(out, to, letters, starts, i)
 }
 
 // An accessible step, with its labels and what follows it.
@@ -37,7 +57,7 @@ fn put_accessible(
     requires { ⌜ now carries ≡ labelled (now starts) ⌝ }
     ensures { λ r. ⌜ Listed (pen (now (out .entry)) to) 1 (accessibleItem letters (now (s .entry)) (now (kerns .entry)) (now (m .entry)) (now (starts .entry)) i) (pen (now (out .exit)) r) ⌝ }
 {
-    let to = labels::put_labels(out, to, letters, starts, carries, i);
+    let to = put_labels(out, to, letters, starts, carries, i);
     let to = steps::put_step(out, to, 1, letters, s, kerns, i);
     let skip = tfm::byte_of(s, i, 0);
     steps::put_tail(out, to, m, i, skip)
@@ -173,7 +193,7 @@ fn put_pieces(
 ) -> usize
     requires { ⌜ now carries ≡ labelled (now starts) ⌝ }
     requires { ⌜ nl ≤ 65536 ⌝ }
-    ensures { λ r. ⌜ Listed (pen (now (out .entry)) to) 1 (pieces letters (now (s .entry)) (now (kerns .entry)) (now (m .entry)) (now (starts .entry)) nl nl 0) (pen (now (out .exit)) r) ⌝ }
+    ensures { λ r. ⌜ Listed (pen (now (out .entry)) to) 1 (pieces letters (now (s .entry)) (now (kerns .entry)) (now (m .entry)) (now (starts .entry)) nl) (pen (now (out .exit)) r) ⌝ }
 {
     let mut to = to;
     let mut i: u32 = 0;
@@ -196,7 +216,7 @@ fn put_table(
     nl: u32,
 ) -> usize
     requires { ⌜ nl ≤ 65536 ⌝ }
-    ensures { λ r. ⌜ Listed (pen (now (out .entry)) to) 0 (group (codes "LIGTABLE") [] (pieces letters (now (s .entry)) (now (kerns .entry)) (now (m .entry)) (now (starts .entry)) nl nl 0)) (pen (now (out .exit)) r) ⌝ }
+    ensures { λ r. ⌜ Listed (pen (now (out .entry)) to) 0 (group (codes "LIGTABLE") [] (pieces letters (now (s .entry)) (now (kerns .entry)) (now (m .entry)) (now (starts .entry)) nl)) (pen (now (out .exit)) r) ⌝ }
 {
     let carries = labels::labelled(starts);
     let to = items::group_bare(out, to, 1, b"LIGTABLE");
@@ -247,7 +267,7 @@ fn put_program(
     i: u32,
 ) -> usize
     requires { ⌜ nl ≤ 65536 ⌝ }
-    ensures { λ r. ⌜ Listed (pen (now (out .entry)) to) 2 (programFrom letters (now (s .entry)) (now (kerns .entry)) nl nl i) (pen (now (out .exit)) r) ⌝ }
+    ensures { λ r. ⌜ Listed (pen (now (out .entry)) to) 2 (programFrom letters (now (s .entry)) (now (kerns .entry)) nl i) (pen (now (out .exit)) r) ⌝ }
 {
     let mut to = to;
     let mut i = i;

@@ -5,12 +5,14 @@ use native.Mathlib.Omega.{arith}
 use lib.ListN.{length}
 use borrow.Author.Needs.{needs}
 use Rattle.lent.specs.Write.{pen}
-use Rattle.ligatures.proofs.Pieces.{Rest, rest-all, rest-more, rest-none, end-is}
+use Rattle.items.proofs.Jumps.{Rest, rest-all, rest-more, rest-none}
+use Rattle.ligatures.specs.Ligatures.{pieceEnd, pieceAt}
+use Rattle.ligatures.proofs.Ways.{end-is}
 use Rattle.ligatures.proofs.put_pieces.Statement.{statement}
 use Rattle.ligatures.proofs.put_pieces.Tie as tie
 
 abbrev Inv-loop : tie.InvT-loop
-Inv-loop out₀ to letters s kerns m starts carries nl to₀ i₀ out to' i = Rest letters s kerns m starts nl (pen out₀ to) (pen out to') i × (i ≤ nl) × (length out ≡ length out₀)
+Inv-loop out₀ to letters s kerns m starts carries nl to₀ i₀ out to' i = Rest (pieceAt letters s kerns m starts nl) (pieceEnd m nl) nl 1 0 (pen out₀ to) (pen out to') i × (i ≤ nl) × (length out ≡ length out₀)
 
 abbrev μ-loop : tie.MeasureT-loop
 μ-loop out₀ to letters s kerns m starts carries nl to₀ i₀ out to' i = nl - i
@@ -20,7 +22,7 @@ loop-again c =
     let e = c .before .before .before .before in
     let t = e .before in
     let w = end-is _ _ _ (t .loop-test .taken) (e .piece-end .ensures) in (
-      rest-more _ _ _ _ _ _ _ (t .before .loop .inv .0) (t .loop-test .taken) (e .piece-end .ensures) (c .before .before .put-piece .ensures),
+      rest-more _ _ _ _ _ _ (t .before .loop .inv .0) (t .loop-test .taken) (e .piece-end .ensures) (omega (arith, w)) (rw (e .piece-end .ensures) at (c .before .before .put-piece .ensures)),
       w .most,
       search needs,
     )
@@ -42,6 +44,6 @@ requires c κs =
 pub put-pieces-spec : {M : Type 1} → statement M
 put-pieces-spec =
     tie.close
-    (tie.spec Inv-loop μ-loop (λ c. (rest-all _ _ _ _ _ _ _, search needs, search needs)) (λ c κs. search needs) requires
+    (tie.spec Inv-loop μ-loop (λ c. (rest-all _ _ _ _ _ _, search needs, search needs)) (λ c κs. search needs) requires
     less loop-again (λ c. c .before .loop .inv .2)
-    (λ c. rest-none _ _ _ _ _ _ _ (c .before .loop .inv .0) (c .loop-test .left)))
+    (λ c. rest-none _ _ _ _ _ _ (c .before .loop .inv .0) (c .loop-test .left)))

@@ -5,12 +5,14 @@ use native.Mathlib.Omega.{arith}
 use lib.ListN.{length}
 use borrow.Author.Needs.{needs}
 use Rattle.lent.specs.Write.{pen}
-use Rattle.ligatures.proofs.Programs.{Rest, forwards, rest-all, rest-more, rest-none, rest-stuck}
+use Rattle.items.proofs.Jumps.{Rest, rest-all, rest-more, rest-none, rest-stuck}
+use Rattle.ligatures.specs.Ligatures.{stepItem, following}
+use Rattle.ligatures.proofs.Ways.{forwards}
 use Rattle.ligatures.proofs.put_program.Statement.{statement}
 use Rattle.ligatures.proofs.put_program.Tie as tie
 
 abbrev Inv-loop : tie.InvT-loop
-Inv-loop out₀ to letters s kerns nl i to₀ i₀ out to' i' = Rest letters s kerns nl i (pen out₀ to) (pen out to') i' × (length out ≡ length out₀)
+Inv-loop out₀ to letters s kerns nl i to₀ i₀ out to' i' = Rest (stepItem letters s kerns) (following s nl) nl 2 i (pen out₀ to) (pen out to') i' × (length out ≡ length out₀)
 
 abbrev μ-loop : tie.MeasureT-loop
 μ-loop out₀ to letters s kerns nl i to₀ i₀ out to' i' = nl - i'
@@ -23,7 +25,7 @@ less c =
 loop-again : tie.Need-loop-again Inv-loop μ-loop
 loop-again c =
     let t = c .before .before .before .before .before .before in (
-      rest-more _ _ _ _ _ _ (t .before .loop .inv .0) (t .loop-test .taken) (c .following .ensures) (c .before .before .before .put-step .ensures),
+      rest-more _ _ _ _ _ _ (t .before .loop .inv .0) (t .loop-test .taken) (c .following .ensures) (forwards _ _ _ (t .loop-test .taken) (c .following .ensures)) (c .before .before .before .put-step .ensures),
       search needs,
     )
 

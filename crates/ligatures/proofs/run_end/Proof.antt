@@ -3,7 +3,7 @@ use Prim.Native.Nat.{_-_}
 use mathlib.Core.Path.{_≡_, refl, sym, _∙_}
 use borrow.Author.Needs.{needs}
 use Rattle.ligatures.specs.Ligatures.{runEnd}
-use Rattle.ligatures.proofs.Pieces.{run-more, run-stop, run-over}
+use Rattle.ligatures.proofs.Ways.{run-more, run-stop, run-over}
 use Rattle.ligatures.proofs.run_end.Statement.{statement}
 use Rattle.ligatures.proofs.run_end.Tie as tie
 

@@ -1,8 +1,8 @@
 -- A step that carries no label has none to print.
 use borrow.Author.Needs.{needs}
 use Rattle.ligatures.proofs.Labelled.{no-labels}
-use Rattle.ligatures.proofs.labels.put_labels.Statement.{statement}
-use Rattle.ligatures.proofs.labels.put_labels.Tie as tie
+use Rattle.ligatures.proofs.put_labels.Statement.{statement}
+use Rattle.ligatures.proofs.put_labels.Tie as tie
 
 returns : tie.Need-returns
 returns c =
