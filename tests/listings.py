@@ -30,8 +30,8 @@ WHOLE = (131080, 262144, 65800, 600000)
 TFTOPL_PAIRS = 32579
 DAMAGED = 4000
 PATIENCE = 1 if platform.machine() == "x86_64" else 20  # seconds; elsewhere the programs run under an emulator
-CLASSES = {"as tftopl", "refused", "empty file", "lf below 6", "bc = 256", "table sizes", "newline after the loop line", "17 counts for the verdict"}
 OVER_128 = "a step over 128 ends a program"
+CLASSES = {"as tftopl", "refused", "empty file", "lf below 6", "bc = 256", "table sizes", "newline after the loop line", "17 counts for the verdict", OVER_128}
 
 
 def ask(requests):
@@ -121,7 +121,7 @@ def compare(name, cases):
 
 
 def stored():
-    """The stored fonts and damaged files, with what tftopl printed for them."""
+    """The stored fonts and damaged files."""
     for folder in (SAMPLES, damage.STORED):
         for path in sorted(folder.glob("*.tfm")):
             yield path, path.read_bytes()
