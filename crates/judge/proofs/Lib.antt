@@ -2,3 +2,4 @@
 pub mod Cases
 pub mod Places
 pub mod Once
+pub mod Enough
