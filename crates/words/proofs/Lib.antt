@@ -1,0 +1,2 @@
+-- The laws of `words` that belong to no one function
+pub mod Lines
