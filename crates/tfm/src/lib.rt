@@ -93,9 +93,10 @@ pub fn count(l: Layout, k: u8) -> u32
 pub fn start(l: Layout, k: u8) -> usize
     ensures { λ r. ⌜ (r ≡ startOf l k) × (r ≤ 6 + 4294967295 * k) ⌝ }
 {
+    let counts = counts(l);
     let mut at: usize = 6;
     for i in 0..k {
-        at += count(l, i) as usize;
+        at += lent::number_at(&counts, i as usize) as usize;
     }
     at
 }
