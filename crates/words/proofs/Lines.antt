@@ -30,7 +30,7 @@ no-newline : (test rest : Bool) → cond test false rest ≡ true → (test ≡ 
 no-newline true rest h = absurd (false≢true h)
 no-newline false rest h = (refl, h)
 
-both : (test rest : Bool) → cond test rest false ≡ true → (test ≡ true) × (rest ≡ true)
+pub both : (test rest : Bool) → cond test rest false ≡ true → (test ≡ true) × (rest ≡ true)
 both true rest h = (refl, h)
 both false rest h = absurd (false≢true h)
 
