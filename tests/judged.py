@@ -1,6 +1,7 @@
 #!/usr/bin/env python3
-"""The program `judged` beside 01's rules in Python, over stored, made and damaged files: verdicts and pairs on buffers that are lent whole, short by one, empty and too long. The answers for the stored files are stored beside them; --store derives them anew."""
+"""The verdicts and pairs of the program `answers` beside 01's rules in Python, over stored, made and damaged files, on buffers that are lent whole, short by one, empty and too long; and 65,280 pairs that are settled at once. The answers for the stored files are stored beside them; --store derives them anew."""
 import random
+import resource
 import struct
 import subprocess
 import sys
@@ -13,10 +14,10 @@ import pairs
 import tftopl
 
 ROOT = Path(__file__).resolve().parent.parent
-VERDICT = 0xFFFFFFFF
+LISTING, VERDICT = 0xFFFFFFFF, 0xFFFFFFFE
 REMARKS = (1, 6)
 FILL = 170
-ANSWERS = {"CLEAN", "MENDED", "LOOPING", "LEAVES", "LOOPS", *(f"REFUSED {n}" for n in (1, 2, *range(6, 16))), *(f"NO OUTCOME {n}" for n in (1, 2, *range(6, 15), 17))}
+ANSWERS = {"CLEAN", "MENDED", "LOOPING", "LEAVES", "LOOPS", *(f"REFUSED {n}" for n in range(1, 16)), *(f"NO OUTCOME {n}" for n in (*range(1, 15), 17))}
 
 
 class Judge:
@@ -88,7 +89,7 @@ def questions(judge, r):
     for size in sizes:
         yield (*size, VERDICT)
     known = sorted(judge.pairs)
-    asked = r.sample(known, min(8, len(known))) + [(65, 66), (256, 255), (257, 0), (0, 256), (65535, 0)]
+    asked = r.sample(known, min(20, len(known))) + [(65, 66), (256, 255), (257, 0), (0, 256), (65535, 0)]
     for x, y in asked:
         for size in (needs, r.choice(sizes)):
             yield (*size, x << 16 | y)
@@ -111,7 +112,7 @@ def line(judge, question):
 def store():
     """Writes the answers of the stored files anew, by the rules here."""
     for name, file in stored():
-        judge = Judge(own(file))
+        judge = Judge(file)
         answers(name).write_text("".join(line(judge, question) + "\n" for question in questions(judge, random.Random(name))))
 
 
@@ -125,8 +126,11 @@ def stored_questions(name, judge):
 
 
 def refused():
-    """No words; a first byte over 127; less than six words; one size changed."""
+    """No bytes, one byte, no words, fewer bytes than claimed; a first byte over 127; less than six words; one size changed."""
+    yield "no bytes", b""
+    yield "one byte", bytes(1)
     yield "no words", bytes(2)
+    yield "less than claimed", struct.pack(">H", 14) + bytes(30)
     yield "first byte over 127", struct.pack(">H", 32768) + bytes(4 * 32768 - 2)
     yield "five words", struct.pack(">H", 5) + bytes(18)
     sound = next(file for _, file in pairs.made())
@@ -134,41 +138,71 @@ def refused():
         yield f"size {k} is {size}", sound[: 2 * k] + struct.pack(">H", size) + sound[2 * k + 2 :]
 
 
-def own(file):
-    """The words that the file claims, and nothing after them; None where there are fewer."""
-    length = 4 * struct.unpack(">H", file[:2])[0] if len(file) > 1 else 4
-    return file[:length] if length <= len(file) else None
+def answered(requests):
+    """The answers of one process, within a stack of 8 MB, to requests of a file, what is asked, and the lent sizes of copy, findings, pairs and
+    listing: the line's words, the findings, the listing."""
+    asked = b"".join(struct.pack(">6I", len(file), what, *sizes) + file for file, what, sizes in requests)
+    run = subprocess.run([ROOT / "nyelgomir", "answers"], input=asked, stdout=subprocess.PIPE, check=True, preexec_fn=within_8_mb)
+    out, place = run.stdout, 0
+    for _, what, _ in requests:
+        end = out.index(b"\n", place)
+        words, place = out[place:end].decode().split(), end + 1
+        parts = []
+        for length in lengths(words, what):
+            parts.append(out[place : place + length])
+            place += length
+        yield words, *parts
+    if place != len(out):
+        sys.exit("answers: more is printed than was asked for")
 
 
-def ask(file, asked):
-    junk = b"".join(struct.pack(">4I", *question) for question in asked)
-    run = subprocess.run([ROOT / "nyelgomir", "judged"], input=file + junk, stdout=subprocess.PIPE, check=True, preexec_fn=pairs.within_8_mb)
-    return run.stdout.decode().splitlines()
+def lengths(words, what):
+    """How many bytes of findings and of listing follow an answer's line."""
+    if words[0] == "REFUSED" or what not in (LISTING, VERDICT):
+        return 0, 0
+    return int(words[1]), int(words[2]) if what == LISTING else 0
+
+
+def within_8_mb():
+    resource.setrlimit(resource.RLIMIT_STACK, (8 << 20, resource.getrlimit(resource.RLIMIT_STACK)[1]))
+
+
+def compare(name, judge, file, asked):
+    """Holds the answers to some questions against the rules."""
+    requests = [(file, what, (copy, findings, room, 0)) for copy, findings, room, what in asked]
+    for question, (words, records, _) in zip(asked, answered(requests)):
+        wanted, found = judge.answer(*question), " ".join(words)
+        if found != wanted:
+            sys.exit(f"judged: {name}: {question}: wanted {wanted}, found {found}")
+        if records not in (b"", judge.records):
+            sys.exit(f"judged: {name}: {question}: other findings than the rules give")
+        yield " ".join(words[:3]) if words[0] == "NO" else " ".join(words[:2]) if words[0] == "REFUSED" else words[0]
+
+
+def check_deepest():
+    """Every pair being settled at once; the rules in Python take too long for it, so the answer stands here."""
+    deep = pairs.deepest()
+    count, room = len(pairs.program(deep)), 65792
+    requests = [(deep, VERDICT, (len(deep), 0, size, 0)) for size in (count - 1, room)]
+    found = [words[:2] for words, _, _ in answered(requests)]
+    if count != 65280 or found != [["REFUSED", "14"], ["CLEAN", "0"]]:
+        sys.exit(f"judged: deepest: {count} pairs, {found}")
+    print(f"judged: {count:,} pairs settled at once in {len(deep)} bytes")
 
 
 def main():
     files, met = 0, Counter()
-    for source in (stored(), refused(), pairs.made(), pairs.random_programs(40), damage.files(5, 150)):
+    for source in (stored(), refused(), pairs.made(), pairs.random_programs(200), damage.files(5, 300)):
         for name, file in source:
-            file = own(file)
-            if file is None:
-                continue
             judge = Judge(file)
             asked = stored_questions(name, judge) if name.endswith(".tfm") else list(questions(judge, random.Random(name)))
-            wanted = [judge.answer(*question) for question in asked]
-            found = ask(file, asked)
-            if len(found) != len(wanted):
-                sys.exit(f"judged: {name}: {len(found)} answers to {len(wanted)} questions")
-            for question, want, have in zip(asked, wanted, found):
-                if want != have:
-                    sys.exit(f"judged: {name}: {question}: wanted {want}, found {have}")
-                words = want.split()
-                met[" ".join(words[:-2]) if words[0] == "NO" else " ".join(words[:2]) if words[0] == "REFUSED" else words[0]] += 1
+            met.update(compare(name, judge, file, asked))
             files += 1
     if missing := ANSWERS - set(met):
         sys.exit(f"judged: no question is answered {sorted(missing)}")
     print(f"judged: {files} files, {sum(met.values())} questions")
     print(f"questions by answer: {damage.count(met)}")
+    check_deepest()
 
 
 if __name__ == "__main__":

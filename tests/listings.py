@@ -1,5 +1,5 @@
 #!/usr/bin/env python3
-"""What the programs `listings` and `list` answer beside the real tftopl: the listing byte for byte, the findings beside its messages, and the
+"""What the programs `answers` and `list` list beside the real tftopl: the listing byte for byte, the findings beside its messages, and the
 closing comment with them. Files are counted by class: as tftopl lists them, or by the departure of 01 that they show; anything else is a failure.
 
 tests/listings.py            the stored files beside what tftopl printed for them, on buffers of many sizes too; the list program at its limits;
@@ -35,20 +35,8 @@ CLASSES = {"as tftopl", "refused", "empty file", "lf below 6", "bc = 256", "tabl
 
 
 def ask(requests):
-    """The answers of one process to files on lent sizes of copy, findings, pairs and listing: the line's words, the findings, the listing."""
-    asked = b"".join(struct.pack(">5I", len(file), *sizes) + file for file, sizes in requests)
-    run = subprocess.run([ROOT / "nyelgomir", "listings"], input=asked, stdout=subprocess.PIPE, check=True, preexec_fn=pairs.within_8_mb)
-    out, place = run.stdout, 0
-    for _ in requests:
-        end = out.index(b"\n", place)
-        words, place = out[place:end].decode().split(), end + 1
-        parts = []
-        for length in (0, 0) if words[0] == "REFUSED" else map(int, words[1:3]):
-            parts.append(out[place : place + length])
-            place += length
-        yield words, *parts
-    if place != len(out):
-        sys.exit("listings: more is printed than was asked for")
+    """The answers to files on lent sizes of copy, findings, pairs and listing."""
+    return judged.answered([(file, judged.LISTING, sizes) for file, sizes in requests])
 
 
 def meets_over_128(copy):
@@ -155,9 +143,6 @@ def many_pairs(existing):
 
 def departing():
     """The ways in which a file is refused, and files for the departures that are rare."""
-    yield "one byte", bytes(1)
-    yield "less than claimed", struct.pack(">H", 14) + bytes(30)
-    yield "no bytes", b""
     yield from judged.refused()
     yield "32,600 steps", with_program(b"", b"\xff\x00\x00\x00" * 32600)
     yield "34,560 pairs", many_pairs(135)

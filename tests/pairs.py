@@ -1,18 +1,7 @@
-#!/usr/bin/env python3
-"""The program `pairs` beside 01's rules in Python, over made and damaged files: which pairs loop, what the others leave, and how many entries the room needs."""
+"""01's pairs and rewriting in Python: the steps of a mended program, which pairs loop and what the others leave; and fonts made for one thing each."""
 import random
-import resource
 import struct
-import subprocess
-import sys
-from pathlib import Path
 
-sys.dont_write_bytecode = True
-import damage
-import tftopl
-
-ROOT = Path(__file__).resolve().parent.parent
-ROOM = 5000
 LEFT_BOUNDARY = 256
 
 
@@ -97,22 +86,6 @@ def outcomes(pairs):
     return settled
 
 
-def expected(copy, questions):
-    pairs = program(copy)
-    settled = outcomes(pairs)
-    loops = sorted(set(pairs) - set(settled))
-    smallest = f"LOOP {loops[0][0]} {loops[0][1]}" if loops else "NO LOOP"
-    yield "TOO FEW" if len(pairs) > ROOM else smallest
-    yield smallest
-    for x, y in questions:
-        if x > LEFT_BOUNDARY:
-            yield f"{x} {y} OUT OF RANGE"
-        elif (x, y) in pairs:
-            yield f"{x} {y} {settled.get((x, y), 'LOOPS')}"
-        else:
-            yield f"{x} {y} {y}"
-
-
 def made():
     """Files made for one thing each."""
     a, b, c, d, e = range(65, 70)
@@ -171,41 +144,3 @@ def random_programs(count):
         n = r.randrange(1, 30)
         steps = [step(r.choice(few), r.choice((0, 1, 1, 2, 2, 3, 3, 5, 6, 7, 11, 128)), r.choice(few), r.choice((0, 0, 0, 1, 2, 128, 128, 254))) for _ in range(n)]
         yield f"random {seed}", font(steps, {c: r.randrange(n) for c in few}, r.choice((None, r.randrange(n))))
-
-
-def within_8_mb():
-    resource.setrlimit(resource.RLIMIT_STACK, (8 << 20, resource.getrlimit(resource.RLIMIT_STACK)[1]))
-
-
-def ask(file, questions):
-    """The program's answers, within a stack of 8 MB."""
-    junk = b"".join(struct.pack(">HB", x, y) for x, y in questions)
-    run = subprocess.run([ROOT / "nyelgomir", "pairs"], input=file + junk, stdout=subprocess.PIPE, check=True, preexec_fn=within_8_mb)
-    return run.stdout.decode().splitlines()
-
-
-def main():
-    files = loops = 0
-    damaged = ((name, file) for name, file in damage.files(4, 200) if not tftopl.Reading(file).refusal)
-    for source in (made(), random_programs(200), damaged):
-        for name, file in source:
-            lf = struct.unpack(">H", file[:2])[0]
-            file = file[: 4 * lf]
-            copy = bytes(tftopl.Reading(file).tfm)
-            pairs = sorted(program(copy))
-            questions = random.Random(name).sample(pairs, min(20, len(pairs))) + [(65, 66), (256, 0), (257, 0)]
-            wanted = list(expected(copy, questions))
-            found = ask(file, questions)
-            if found != wanted:
-                sys.exit(f"pairs: {name}: wanted and found: {[(w, f) for w, f in zip(wanted, found) if w != f][:3]}")
-            files += 1
-            loops += wanted[1] != "NO LOOP"
-    deep = deepest()
-    found = ask(deep, [(0, 0)])
-    if len(program(deep)) != 65280 or found[:2] != ["TOO FEW", "NO LOOP"]:
-        sys.exit(f"pairs: deepest: {len(program(deep))} pairs, {found}")
-    print(f"pairs: {files} files, {loops} of them looping, and 65,280 pairs settled at once in {len(deep)} bytes")
-
-
-if __name__ == "__main__":
-    main()

@@ -80,17 +80,9 @@ def stored():
         yield path.name, path.read_bytes()
 
 
-def short():
-    """Too few bytes for a length, a length of 0, and fewer bytes than the length says."""
-    yield "no bytes", b""
-    yield "one byte", bytes(1)
-    yield "length 0", bytes(2)
-    yield "a byte too few", struct.pack(">H", 6) + bytes(21)
-
-
 def main():
     files, met, boundary = 0, Counter(), False
-    for source in (stored(), short(), judged.refused(), pairs.made(), damage.files(7, 150)):
+    for source in (stored(), judged.refused(), pairs.made(), damage.files(7, 150)):
         for title, file in source:
             judge = judged.Judge(file)
             if judge.refusal:
@@ -101,7 +93,7 @@ def main():
                 wanted = [VERDICTS[judge.verdict], *(sentence(*record) for record in records)]
                 met.update({judge.verdict, *(tag for tag, _, _ in records)})
                 boundary |= any(tag == 18 and a == pairs.LEFT_BOUNDARY for tag, a, _ in records)
-            run = subprocess.run([ROOT / "nyelgomir", "check_font"], input=file, stdout=subprocess.PIPE, check=True, preexec_fn=pairs.within_8_mb)
+            run = subprocess.run([ROOT / "nyelgomir", "check_font"], input=file, stdout=subprocess.PIPE, check=True, preexec_fn=judged.within_8_mb)
             found = run.stdout.decode().splitlines()
             if found != wanted:
                 sys.exit(f"words: {title}: wanted and found: {damage.difference(wanted, found)}")

@@ -1,8 +1,8 @@
 -- The loop ends.
 use Prim.Native.Nat.{_≤_, _-_}
 use borrow.Author.Needs.{needs}
-use Rattle.judged.proofs.sum_of_numbers.Statement.{statement}
-use Rattle.judged.proofs.sum_of_numbers.Tie as tie
+use Rattle.answers.proofs.sum_of_numbers.Statement.{statement}
+use Rattle.answers.proofs.sum_of_numbers.Tie as tie
 
 abbrev Inv-loop : tie.InvT-loop
 Inv-loop s n sum₀ i₀ sum i = i ≤ n
