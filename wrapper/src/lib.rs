@@ -25,13 +25,13 @@ const SENTENCE_BYTES: usize = 160;
 const FINDING_BYTES: usize = 7;
 
 /// Bytes of copy that are enough for a file of `lf` words.
-pub fn copy_bytes(lf: u16) -> usize {
-    4 * usize::from(lf)
+pub const fn copy_bytes(lf: u16) -> usize {
+    4 * lf as usize
 }
 
 /// Bytes of findings that are enough for a file of `lf` words.
-pub fn findings_bytes(lf: u16) -> usize {
-    42 * (usize::from(lf) + 108)
+pub const fn findings_bytes(lf: u16) -> usize {
+    42 * (lf as usize + 108)
 }
 
 /// Why there is no answer, by the numbers of the library.

@@ -1,5 +1,6 @@
 -- From the rows to the room, its outcomes, the smallest loop and one pair.
-use Prim.Native.Nat.{ℕ, _+_, _*_, _/_, _%_, _<_, _≤_}
+use Prim.Native.Nat.{ℕ, zero, suc, _+_, _*_, _/_, _%_, _<_, _≤_}
+use native.Mathlib.Nat.{le-refl}
 use native.Mathlib.Omega.{arith}
 use native.Mathlib.Decide.{decLt}
 use mathlib.Core.Path.{_≡_, refl, sym, ap, _∙_}
@@ -7,14 +8,16 @@ use mathlib.Core.Bool.{Bool, true, false}
 use mathlib.Core.List.{List}
 use lib.ListN.{length, getD, take, replicate, length-replicate, List·getD-eq-default}
 use lib.Seq.{take-at, getD-take, length-take-le}
-use Rattle.lent.specs.Write.{Pen, pen, each, flat, Wrote, Ended, fitted, overflowed}
+use borrow.Author.Tests.{le-ltb}
+use Rattle.lent.specs.Fold.{iterate}
+use Rattle.lent.specs.Write.{Pen, pen, Text, none, each, run, flat, Wrote, Ended, fitted, overflowed}
 use Rattle.lent.proofs.Ends.{ended, keeps}
 use Rattle.tfm.specs.declared.Layout.{Layout}
 use Rattle.program.specs.Steps.{programOf}
 use Rattle.settle.specs.Settle.{Step, Settles, Loops, stepOf, keyOf, Program, Settled, EndedFirst, Told}
-use Rattle.gather.specs.Steps.{programSteps}
+use Rattle.gather.specs.Steps.{stepFrom, programSteps}
 use Rattle.gather.specs.Answers.{count, SmallestLoop, InRange}
-use Rattle.gather.specs.Pairs.{codeOf, Walked, cell, rowIn, row, pairsText, Outcomes, FirstLoop}
+use Rattle.gather.specs.Pairs.{codeAt, codeOf, Walked, cell, rowIn, row, pairsText, Outcomes, FirstLoop}
 use Rattle.gather.proofs.Lists.{same-turns}
 use Rattle.gather.proofs.Walks.{walked-zeros}
 use Rattle.gather.proofs.Bridge.{code-small, pairs-listed, pairs-step, pairs-count}
@@ -31,6 +34,27 @@ module _ (infos s : List ℕ) (l : Layout) (x : ℕ) {start : ℕ} {u : List ℕ
   pub row-cells : {p q : Pen} → Wrote p (each 256 (rowIn x u)) q → Wrote p (row infos s l x) q
   unfolding codeOf
   row-cells r = same-turns r (λ y h. ap (cell (x * 256 + y)) (walked-zeros w y h ∙ rw e))
+
+-- a left code with no program has no entries
+no-step : (s : List ℕ) (nl f i y : ℕ) → nl ≤ i → stepFrom s nl f i y ≡ nl
+unfolding stepFrom
+no-step s nl zero i y h = refl
+no-step s nl (suc f) i y h = rw (le-ltb i nl h)
+
+no-code : (infos s : List ℕ) (l : Layout) (x y : ℕ) → l .nl ≤ programOf infos s l x → codeOf infos s l x y ≡ 0
+unfolding codeOf codeAt
+no-code infos s l x y h =
+    rw (no-step s (l .nl) (l .nl) (programOf infos s l x) y h, le-ltb (l .nl) (l .nl) (le-refl (l .nl)))
+
+no-cells : (p : Pen) (n : ℕ) (f : ℕ → Text) → ((i : ℕ) → f i ≡ none) → iterate (λ q i. run q (f i)) p n ≡ p
+unfolding iterate run
+no-cells p zero f h = refl
+no-cells p (suc n) f h = rw (h n) (no-cells p n f h)
+
+pub row-none : {p : Pen} (infos s : List ℕ) (l : Layout) (x : ℕ) → l .nl ≤ programOf infos s l x → Wrote p (row infos s l x) p
+unfolding run cell
+row-none {p} infos s l x h =
+    record { is = sym (no-cells p 256 _ (λ (y : ℕ). ap (cell (x * 256 + y)) (no-code infos s l x y h))) }
 
 -- the room once it is settled
 pub outcomes : (infos s : List ℕ) (l : Layout) → ((k : ℕ) → getD s k 0 < 256) → {a m b : List ℕ} {n : ℕ} {r : Bool}

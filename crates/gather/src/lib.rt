@@ -114,14 +114,18 @@ fn put_row(room: &mut [u32], to: usize, x: u32, table: &[u32]) -> usize
     to
 }
 
-// The entries of the left code x.
+// The entries of the left code x: none where it has no program.
 fn put_left(infos: &[u8], s: &[u8], l: Layout, room: &mut [u32], to: usize, x: u32) -> usize
     requires { ⌜ x < 257 ⌝ }
     ensures { λ r. ⌜ Wrote (pen (now (room .entry)) to) (row (now (infos .entry)) (now (s .entry)) l x) (pen (now (room .exit)) r) ⌝ }
 {
-    let mut table = [0u32; 256];
+    let nl = l.nl as u32;
     let start = program::program_start(infos, s, l, x);
-    walk(s, l.nl as u32, start, &mut table);
+    if nl <= start {
+        return to;
+    }
+    let mut table = [0u32; 256];
+    walk(s, nl, start, &mut table);
     put_row(room, to, x, &table)
 }
 

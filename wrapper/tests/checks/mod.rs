@@ -128,10 +128,13 @@ struct Lent {
     listing: Vec<u8>,
 }
 
+/// The most words that a file has.
+const LARGEST_LF: u16 = 32_767;
+
 /// Bytes of copy and of findings, entries of pairs, bytes of listing.
 type Lengths = [usize; 4];
 
-const WHOLE: Lengths = [131_068, 919_268, nyelgomir::PAIR_ENTRIES, 1 << 20];
+const WHOLE: Lengths = [nyelgomir::copy_bytes(LARGEST_LF), nyelgomir::findings_bytes(LARGEST_LF), nyelgomir::PAIR_ENTRIES, 1 << 20];
 
 impl Lent {
     fn filled(lengths: Lengths, fill: u8) -> Lent {
