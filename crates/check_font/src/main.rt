@@ -12,7 +12,7 @@ fn print_line(line: &[u8], n: usize) {
     print(b"\n");
 }
 
-// The longest sentence is far shorter than the line.
+// The line holds every sentence: `finding-le` and its like, in words.
 fn print_finding(tag: u8, first: u16, second: u16) {
     let mut line = [0u8; 160];
     let n = words::put_finding(&mut line, 0, tag, first, second);

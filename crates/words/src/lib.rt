@@ -103,8 +103,8 @@ pub fn put_finding(out: &mut [u8], to: usize, tag: u8, first: u16, second: u16) 
             The program of character@ starts past the last step; it was taken away.\n\
             Step # skipped past the last step; it was made the last of its program.\n\
             Step # leads past the last step.\n\
-            Step # was for a missing character; the first code of the font was put in its place.\n\
-            Step # made a missing character; the first code of the font was put in its place.\n\
+            Step # was for a missing character; the first code of the font was put in its place, or 0 where that is 256.\n\
+            Step # made a missing character; the first code of the font was put in its place, or 0 where that is 256.\n\
             Step # has a kern past the last kern; it is listed as R 0.0.\n\
             Step # had an unknown ligature code; it was made a plain ligature.\n\
             The pair of@ and& is rewritten without end.\n\
