@@ -23,13 +23,12 @@ unfoldable pub lengthItem : List ℕ → List ℕ → ℕ → Items
 lengthItem name t i =
     choose (not (eqb i 0) && ltb i (length t / 4)) (leaf name (real (wordOf t i) ∷ [])) empty
 
--- of a file's copy c and its sizes l
-unfoldable pub lengthItems : List ℕ → Layout → CharInfo → Items
-lengthItems c l info =
-    widthItem (tableOf c l 2) (info .width)
-    ▸ lengthItem (codes "CHARHT") (tableOf c l 3) (info .height)
-    ▸ lengthItem (codes "CHARDP") (tableOf c l 4) (info .depth)
-    ▸ lengthItem (codes "CHARIC") (tableOf c l 5) (info .italic)
+unfoldable pub lengthItems : List ℕ → List ℕ → List ℕ → List ℕ → CharInfo → Items
+lengthItems widths heights depths italics info =
+    widthItem widths (info .width)
+    ▸ lengthItem (codes "CHARHT") heights (info .height)
+    ▸ lengthItem (codes "CHARDP") depths (info .depth)
+    ▸ lengthItem (codes "CHARIC") italics (info .italic)
 
 -- §86: a piece of a recipe; the character itself stands for one that does not exist
 abbrev pub shown : List ℕ → Layout → ℕ → ℕ → ℕ
@@ -54,25 +53,25 @@ module _ (letters : Bool) (infos : List ℕ) (l : Layout) (char : ℕ) where
   unfoldable pub varchar : List ℕ → ℕ → Items
   varchar recipes r = group (codes "VARCHAR") [] (recipeItems recipes r)
 
-module _ (letters : Bool) (c : List ℕ) (l : Layout) (starts : List ℕ) (char : ℕ) where
-  -- §78, §83, §84: by the tag, nothing, the program as a comment, the link or the recipe
-  unfoldable pub tagItem : CharInfo → Items
-  tagItem info =
-      choose (eqb (info .tag) 1) (programComment letters (tableOf c l 6) (tableOf c l 7) (l .nl) (getD starts char 0))
-      (choose (eqb (info .tag) 2) (leaf (codes "NEXTLARGER") (code letters (info .remainder) ∷ []))
-      (choose (eqb (info .tag) 3) (varchar letters (tableOf c l 1) l char (tableOf c l 8) (info .remainder))
-      empty))
+-- §78, §83, §84: by the tag, nothing, the program as a comment, the link or the recipe
+unfoldable pub tagItem : Bool → List ℕ → List ℕ → List ℕ → List ℕ → Layout → List ℕ → ℕ → CharInfo → Items
+tagItem letters infos s kerns recipes l starts char info =
+    choose (eqb (info .tag) 1) (programComment letters s kerns (l .nl) (getD starts char 0))
+    (choose (eqb (info .tag) 2) (leaf (codes "NEXTLARGER") (code letters (info .remainder) ∷ []))
+    (choose (eqb (info .tag) 3) (varchar letters infos l char recipes (info .remainder))
+    empty))
 
-  unfoldable pub insideItems : CharInfo → Items
-  insideItems info = lengthItems c l info ▸ tagItem info
-
+-- of the tables of a copy, its sizes l and the starts of its programs
+module _ (letters : Bool) (infos widths heights depths italics s kerns recipes : List ℕ) (l : Layout) (starts : List ℕ) (char : ℕ) where
   unfoldable pub presentItem : CharInfo → Items
-  presentItem info = group (codes "CHARACTER") (code letters char ∷ []) (insideItems info)
+  presentItem info =
+      group (codes "CHARACTER") (code letters char ∷ [])
+      (lengthItems widths heights depths italics info ▸ tagItem letters infos s kerns recipes l starts char info)
 
   unfoldable pub characterItem : Items
-  characterItem =
-      choose (existsIn (tableOf c l 1) l char) (presentItem (infoOf (tableOf c l 1) (char - l .bc))) empty
+  characterItem = choose (existsIn infos l char) (presentItem (infoOf infos (char - l .bc))) empty
 
--- §78: the characters in ascending order of code
+-- §78: the characters of a copy c in ascending order of code
 unfoldable pub characterItems : Bool → List ℕ → Layout → List ℕ → Items
-characterItems letters c l starts = loop 256 (characterItem letters c l starts)
+characterItems letters c l starts =
+    loop 256 (characterItem letters (tableOf c l 1) (tableOf c l 2) (tableOf c l 3) (tableOf c l 4) (tableOf c l 5) (tableOf c l 6) (tableOf c l 7) (tableOf c l 8) l starts)

@@ -4,10 +4,9 @@ use tfm::Layout;
 ghost use mathlib.Core.Path.{_≡_};
 ghost use lib.ListN.{getD};
 ghost use Rattle.lent.specs.Write.{pen};
-ghost use Rattle.tfm.specs.Subfiles.{tableOf};
-ghost use Rattle.items.specs.Items.{Listed};
+ghost use Rattle.items.specs.Items.{loop, Listed};
 ghost use Rattle.ligatures.specs.Ligatures.{programComment};
-ghost use Rattle.listing.specs.Characters.{widthItem, lengthItem, lengthItems, shown, pieceItem, optionalItem, recipeItems, varchar, tagItem, insideItems, presentItem, characterItem, characterItems};
+ghost use Rattle.listing.specs.Characters.{widthItem, lengthItem, lengthItems, shown, pieceItem, optionalItem, recipeItems, varchar, tagItem, presentItem, characterItem, characterItems};
 
 fn put_width(out: &mut [u8], to: usize, widths: &[u8], i: u8) -> usize
     ensures { λ r. ⌜ Listed (pen (now (out .entry)) to) 1 (widthItem (now (widths .entry)) i) (pen (now (out .exit)) r) ⌝ }
@@ -31,13 +30,17 @@ fn put_length(out: &mut [u8], to: usize, name: &[u8], t: &[u8], i: u8) -> usize
     }
 }
 
-fn put_lengths(out: &mut [u8], to: usize, copy: &[u8], l: Layout, info: CharInfo) -> usize
-    ensures { λ r. ⌜ Listed (pen (now (out .entry)) to) 1 (lengthItems (now (copy .entry)) l info) (pen (now (out .exit)) r) ⌝ }
+fn put_lengths(
+    out: &mut [u8],
+    to: usize,
+    widths: &[u8],
+    heights: &[u8],
+    depths: &[u8],
+    italics: &[u8],
+    info: CharInfo,
+) -> usize
+    ensures { λ r. ⌜ Listed (pen (now (out .entry)) to) 1 (lengthItems (now (widths .entry)) (now (heights .entry)) (now (depths .entry)) (now (italics .entry)) info) (pen (now (out .exit)) r) ⌝ }
 {
-    let widths = tfm::table(copy, l, 2);
-    let heights = tfm::table(copy, l, 3);
-    let depths = tfm::table(copy, l, 4);
-    let italics = tfm::table(copy, l, 5);
     let to = put_width(out, to, widths, info.width);
     let to = put_length(out, to, b"CHARHT", heights, info.height);
     let to = put_length(out, to, b"CHARDP", depths, info.depth);
@@ -128,91 +131,81 @@ fn put_varchar(
     items::put_close(out, to, 1)
 }
 
+fn put_program(
+    out: &mut [u8],
+    to: usize,
+    letters: bool,
+    s: &[u8],
+    kerns: &[u8],
+    nl: u16,
+    starts: &[u32],
+    char: u8,
+) -> usize
+    ensures { λ r. ⌜ Listed (pen (now (out .entry)) to) 1 (programComment letters (now (s .entry)) (now (kerns .entry)) nl (getD (now (starts .entry)) char 0)) (pen (now (out .exit)) r) ⌝ }
+{
+    let start = lent::number_at(starts, char as usize);
+    ligatures::put_comment(out, to, letters, s, kerns, nl, start)
+}
+
 // By the tag: the program as a comment, the link or the recipe.
 fn put_tag(
     out: &mut [u8],
     to: usize,
     letters: bool,
-    copy: &[u8],
+    infos: &[u8],
+    s: &[u8],
+    kerns: &[u8],
+    recipes: &[u8],
     l: Layout,
     starts: &[u32],
     char: u8,
     info: CharInfo,
 ) -> usize
-    ensures { λ r. ⌜ Listed (pen (now (out .entry)) to) 1 (tagItem letters (now (copy .entry)) l (now (starts .entry)) char info) (pen (now (out .exit)) r) ⌝ }
+    ensures { λ r. ⌜ Listed (pen (now (out .entry)) to) 1 (tagItem letters (now (infos .entry)) (now (s .entry)) (now (kerns .entry)) (now (recipes .entry)) l (now (starts .entry)) char info) (pen (now (out .exit)) r) ⌝ }
 {
     let tag = info.tag;
     match tag {
-        1 => put_program(out, to, letters, copy, l, starts, char),
+        1 => put_program(out, to, letters, s, kerns, l.nl, starts, char),
         2 => items::leaf_code(out, to, 1, b"NEXTLARGER", letters, info.remainder),
-        3 => put_extensible(out, to, letters, copy, l, char, info.remainder),
+        3 => put_varchar(out, to, letters, infos, l, char, recipes, info.remainder),
         _ => to,
     }
-}
-
-fn put_program(
-    out: &mut [u8],
-    to: usize,
-    letters: bool,
-    copy: &[u8],
-    l: Layout,
-    starts: &[u32],
-    char: u8,
-) -> usize
-    ensures { λ r. ⌜ Listed (pen (now (out .entry)) to) 1 (programComment letters (tableOf (now (copy .entry)) l 6) (tableOf (now (copy .entry)) l 7) (l .nl) (getD (now (starts .entry)) char 0)) (pen (now (out .exit)) r) ⌝ }
-{
-    let s = tfm::table(copy, l, 6);
-    let kerns = tfm::table(copy, l, 7);
-    let start = lent::number_at(starts, char as usize);
-    ligatures::put_comment(out, to, letters, s, kerns, l.nl, start)
-}
-
-fn put_extensible(
-    out: &mut [u8],
-    to: usize,
-    letters: bool,
-    copy: &[u8],
-    l: Layout,
-    char: u8,
-    r: u8,
-) -> usize
-    ensures { λ q. ⌜ Listed (pen (now (out .entry)) to) 1 (varchar letters (tableOf (now (copy .entry)) l 1) l char (tableOf (now (copy .entry)) l 8) r) (pen (now (out .exit)) q) ⌝ }
-{
-    let infos = tfm::table(copy, l, 1);
-    let recipes = tfm::table(copy, l, 8);
-    put_varchar(out, to, letters, infos, l, char, recipes, r)
-}
-
-fn put_inside(
-    out: &mut [u8],
-    to: usize,
-    letters: bool,
-    copy: &[u8],
-    l: Layout,
-    starts: &[u32],
-    char: u8,
-    info: CharInfo,
-) -> usize
-    ensures { λ r. ⌜ Listed (pen (now (out .entry)) to) 1 (insideItems letters (now (copy .entry)) l (now (starts .entry)) char info) (pen (now (out .exit)) r) ⌝ }
-{
-    let to = put_lengths(out, to, copy, l, info);
-    put_tag(out, to, letters, copy, l, starts, char, info)
 }
 
 fn put_present(
     out: &mut [u8],
     to: usize,
     letters: bool,
-    copy: &[u8],
+    infos: &[u8],
+    widths: &[u8],
+    heights: &[u8],
+    depths: &[u8],
+    italics: &[u8],
+    s: &[u8],
+    kerns: &[u8],
+    recipes: &[u8],
     l: Layout,
     starts: &[u32],
     char: u8,
     info: CharInfo,
 ) -> usize
-    ensures { λ r. ⌜ Listed (pen (now (out .entry)) to) 0 (presentItem letters (now (copy .entry)) l (now (starts .entry)) char info) (pen (now (out .exit)) r) ⌝ }
+    ensures { λ r. ⌜ Listed (pen (now (out .entry)) to) 0 (presentItem letters (now (infos .entry)) (now (widths .entry)) (now (heights .entry)) (now (depths .entry)) (now (italics .entry)) (now (s .entry)) (now (kerns .entry)) (now (recipes .entry)) l (now (starts .entry)) char info) (pen (now (out .exit)) r) ⌝ }
 {
     let to = items::group_code(out, to, 1, b"CHARACTER", letters, char);
-    let to = put_inside(out, to, letters, copy, l, starts, char, info);
+    let to = put_lengths(out, to, widths, heights, depths, italics, info);
+    let to = put_tag(
+        out,
+        to,
+        letters,
+        infos,
+        s,
+        kerns,
+        recipes,
+        l,
+        starts,
+        char,
+        info,
+    );
     items::put_close(out, to, 0)
 }
 
@@ -220,22 +213,84 @@ fn put_character(
     out: &mut [u8],
     to: usize,
     letters: bool,
-    copy: &[u8],
+    infos: &[u8],
+    widths: &[u8],
+    heights: &[u8],
+    depths: &[u8],
+    italics: &[u8],
+    s: &[u8],
+    kerns: &[u8],
+    recipes: &[u8],
     l: Layout,
     starts: &[u32],
     char: u8,
 ) -> usize
-    ensures { λ r. ⌜ Listed (pen (now (out .entry)) to) 0 (characterItem letters (now (copy .entry)) l (now (starts .entry)) char) (pen (now (out .exit)) r) ⌝ }
+    ensures { λ r. ⌜ Listed (pen (now (out .entry)) to) 0 (characterItem letters (now (infos .entry)) (now (widths .entry)) (now (heights .entry)) (now (depths .entry)) (now (italics .entry)) (now (s .entry)) (now (kerns .entry)) (now (recipes .entry)) l (now (starts .entry)) char) (pen (now (out .exit)) r) ⌝ }
 {
-    let infos = tfm::table(copy, l, 1);
     let info = tfm::char_info(infos, lent::minus(char as u32, l.bc as u32));
     if tfm::exists(infos, l, char as u32) {
-        put_present(out, to, letters, copy, l, starts, char, info)
+        put_present(
+            out,
+            to,
+            letters,
+            infos,
+            widths,
+            heights,
+            depths,
+            italics,
+            s,
+            kerns,
+            recipes,
+            l,
+            starts,
+            char,
+            info,
+        )
     } else {
         to
     }
 }
 
+fn put_each_character(
+    out: &mut [u8],
+    to: usize,
+    letters: bool,
+    infos: &[u8],
+    widths: &[u8],
+    heights: &[u8],
+    depths: &[u8],
+    italics: &[u8],
+    s: &[u8],
+    kerns: &[u8],
+    recipes: &[u8],
+    l: Layout,
+    starts: &[u32],
+) -> usize
+    ensures { λ r. ⌜ Listed (pen (now (out .entry)) to) 0 (loop 256 (characterItem letters (now (infos .entry)) (now (widths .entry)) (now (heights .entry)) (now (depths .entry)) (now (italics .entry)) (now (s .entry)) (now (kerns .entry)) (now (recipes .entry)) l (now (starts .entry)))) (pen (now (out .exit)) r) ⌝ }
+{
+    let mut to = to;
+    for char in 0..256u32 {
+        to = put_character(
+            out,
+            to,
+            letters,
+            infos,
+            widths,
+            heights,
+            depths,
+            italics,
+            s,
+            kerns,
+            recipes,
+            l,
+            starts,
+            char as u8,
+        );
+    }
+    to
+}
+
+// Each table is cut once, and goes down as a slice.
 pub fn put_characters(
     out: &mut [u8],
     to: usize,
@@ -246,9 +301,27 @@ pub fn put_characters(
 ) -> usize
     ensures { λ r. ⌜ Listed (pen (now (out .entry)) to) 0 (characterItems letters (now (copy .entry)) l (now (starts .entry))) (pen (now (out .exit)) r) ⌝ }
 {
-    let mut to = to;
-    for char in 0..256u32 {
-        to = put_character(out, to, letters, copy, l, starts, char as u8);
-    }
-    to
+    let infos = tfm::table(copy, l, 1);
+    let widths = tfm::table(copy, l, 2);
+    let heights = tfm::table(copy, l, 3);
+    let depths = tfm::table(copy, l, 4);
+    let italics = tfm::table(copy, l, 5);
+    let s = tfm::table(copy, l, 6);
+    let kerns = tfm::table(copy, l, 7);
+    let recipes = tfm::table(copy, l, 8);
+    put_each_character(
+        out,
+        to,
+        letters,
+        infos,
+        widths,
+        heights,
+        depths,
+        italics,
+        s,
+        kerns,
+        recipes,
+        l,
+        starts,
+    )
 }

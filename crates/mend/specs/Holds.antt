@@ -14,16 +14,15 @@ use Rattle.faults.specs.Header.{stringTooLong, parenthesis, nonstandard, badDes
 use Rattle.faults.specs.Steps.{badBoundary, badStart, skipsTooFar, badAddress, stepForMissing, ligatureToMissing, badKern, oddCode}
 use Rattle.faults.specs.Characters.{pieceMissing, badIndex, linkMissing, endsCycle, badRecipe}
 
--- the table a of width, height, depth, italic and kern, and the subfile that a tag looks at: the header, the parameters, one of those tables, the recipes; 10 is none
+-- the table a of width, height, depth, italic and kern, and the subfile that a tag looks at: the parameters, one of those tables, the recipes, and else the header
 unfoldable pub lengthTable : ℕ → ℕ
 lengthTable a = cond (ltb a 4) (a + 2) 7
 
 unfoldable pub tableNumber : ℕ → ℕ → ℕ
 tableNumber t a =
-    first (leb 2 t && leb t 6) 0
-    (first (eqb t 7) 9
+    first (eqb t 7) 9
     (first (eqb t 8 || eqb t 9) (lengthTable a)
-    (first (eqb t 19) 8 10)))
+    (first (eqb t 19) 8 0))
 
 -- 1: junk at the end
 unfoldable pub junk : List ℕ → Layout → Bool

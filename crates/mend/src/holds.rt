@@ -14,14 +14,13 @@ fn length_table(a: u32) -> u8
     if a < 4 { (a + 2) as u8 } else { 7 }
 }
 
-// The subfile that a tag looks at; 10 is none.
+// The subfile that a tag looks at: the header where it looks at none of these, since that is the first and is cut at once.
 pub fn table_number(t: u32, a: u32) -> u8
     ensures { λ r. ⌜ r ≡ tableNumber t a ⌝ }
 {
-    let k = lent::first(t == 19, 8, 10);
+    let k = lent::first(t == 19, 8, 0);
     let k = lent::first((t == 8) | (t == 9), length_table(a), k);
-    let k = lent::first(t == 7, 9, k);
-    lent::first((2 <= t) & (t <= 6), 0, k)
+    lent::first(t == 7, 9, k)
 }
 
 // Finding 1.

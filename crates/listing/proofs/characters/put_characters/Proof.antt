@@ -1,22 +1,31 @@
--- The turns of the loop are those of `loop`.
+-- The tables are those of the copy.
 use borrow.Author.Needs.{needs}
-use Prim.Native.Nat.{_≤_, _-_}
-use Rattle.lent.specs.Write.{pen}
-use Rattle.items.specs.Items.{loop, Listed}
-use Rattle.items.proofs.Laws.{keeps, no-round, one-round, all-rounds}
-use Rattle.listing.specs.Characters.{characterItem, characterItems}
+use Rattle.items.proofs.Laws.{keeps}
+use Rattle.listing.specs.Characters.{characterItems}
 use Rattle.listing.proofs.characters.put_characters.Statement.{statement}
 use Rattle.listing.proofs.characters.put_characters.Tie as tie
 
-abbrev Inv-loop : tie.InvT-loop
-Inv-loop out₀ to letters copy l starts to₀ char₀ out to' char = Listed (pen out₀ to) 0 (loop char (characterItem letters copy l starts)) (pen out to') × (char ≤ 256)
-
-abbrev μ-loop : tie.MeasureT-loop
-μ-loop out₀ to letters copy l starts to₀ char₀ out to' char = 256 - char
+written : tie.Need-returns
+unfolding characterItems
+written c =
+    let c2 = c .before .before in
+    let recipes = c2 .before .before in
+    let kerns = recipes .before in
+    let s = kerns .before in
+    let italics = s .before in
+    let depths = italics .before in
+    let heights = depths .before in
+    let widths = heights .before in
+    rw (
+      ← widths .before .table .ensures .holds,
+      ← widths .table2 .ensures .holds,
+      ← heights .table3 .ensures .holds,
+      ← depths .table4 .ensures .holds,
+      ← italics .table5 .ensures .holds,
+      ← s .table6 .ensures .holds,
+      ← kerns .table7 .ensures .holds,
+      ← recipes .table8 .ensures .holds,
+    ) (c2 .put-each-character .ensures)
 
 pub put-characters-spec : {M : Type 1} → statement M
-put-characters-spec =
-    tie.close
-    (tie.spec Inv-loop μ-loop (λ c. (no-round, search needs)) (λ c. search needs) (λ c κs. search needs) (λ c. search needs)
-    (λ c. search needs) (λ c. (search one-round, search needs)) (λ c. keeps (c .before .loop .inv .0))
-    (λ c. unfold characterItems in all-rounds (c .before .loop .inv .0) (c .before .loop .inv .1) (c .loop-test .left)))
+put-characters-spec = tie.close (tie.spec (λ c κs. search needs) (λ c κs. search needs) (λ c κs. search needs) (λ c κs. search needs) (λ c κs. search needs) (λ c κs. search needs) (λ c κs. search needs) (λ c κs. search needs) (λ c κs. search needs) (λ c. keeps (written c)) written)

@@ -1,7 +1,6 @@
 -- The calls, one after the other.
 use borrow.Author.Needs.{needs}
-use Rattle.items.proofs.Laws.{after}
-use Rattle.items.proofs.Laws.{keeps}
+use Rattle.items.proofs.Laws.{after, keeps}
 use Rattle.listing.specs.Characters.{lengthItems}
 use Rattle.listing.proofs.characters.put_lengths.Statement.{statement}
 use Rattle.listing.proofs.characters.put_lengths.Tie as tie
@@ -13,12 +12,7 @@ written c =
     let c7 = c2 .before .before .before .before .before in
     let c12 = c7 .before .before .before .before .before in
     let c17 = c12 .before .before .before .before .before in
-    let c19 = c17 .before .before in
-    let c20 = c19 .before in
-    let c21 = c20 .before in
-    let c22 = c21 .before in
-    rw (← c22 .table .ensures .holds, ← c21 .table2 .ensures .holds, ← c20 .table3 .ensures .holds, ← c19 .table4 .ensures .holds)
-    (after (c2 .put-length3 .ensures) (after (c7 .put-length2 .ensures) (after (c12 .put-length .ensures) (c17 .put-width .ensures))))
+    after (c2 .put-length3 .ensures) (after (c7 .put-length2 .ensures) (after (c12 .put-length .ensures) (c17 .put-width .ensures)))
 
 pub put-lengths-spec : {M : Type 1} → statement M
-put-lengths-spec = tie.close (tie.spec (λ c κs. search needs) (λ c κs. search needs) (λ c κs. search needs) (λ c κs. search needs) (λ c κs. search needs) (λ c. search needs) (λ c κs. search needs) (λ c. search needs) (λ c κs. search needs) (λ c. search needs) (λ c κs. search needs) (λ c. keeps (written c)) written)
+put-lengths-spec = tie.close (tie.spec (λ c κs. search needs) (λ c. search needs) (λ c κs. search needs) (λ c. search needs) (λ c κs. search needs) (λ c. search needs) (λ c κs. search needs) (λ c. keeps (written c)) written)

@@ -8,15 +8,13 @@ returns : tie.Need-returns
 unfolding tableNumber
 returns c =
     rw (
-      c .first4 .ensures,
-      c .before .first3 .ensures,
-      c .before .before .first2 .ensures,
-      c .before .before .before .length-table .ensures,
-      c .before .before .before .before .first .ensures,
+      c .first3 .ensures,
+      c .before .first2 .ensures,
+      c .before .before .length-table .ensures,
+      c .before .before .before .first .ensures,
     )
 
 pub table-number-spec : {M : Type 1} → statement M
 table-number-spec =
     tie.close
-    (tie.spec (λ c κs. search needs) (λ c κs. search needs) (λ c κs. search needs) (λ c κs. search needs)
-    (λ c κs. search needs) returns)
+    (tie.spec (λ c κs. search needs) (λ c κs. search needs) (λ c κs. search needs) (λ c κs. search needs) returns)
