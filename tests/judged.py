@@ -170,7 +170,7 @@ def within_8_mb():
 def compare(name, judge, file, asked):
     """Holds the answers to some questions against the rules."""
     requests = [(file, what, (copy, findings, room, 0)) for copy, findings, room, what in asked]
-    for question, (words, records, _) in zip(asked, answered(requests)):
+    for (words, records, _), question in zip(answered(requests), asked):  # in this order, so that the answers are read to their end
         wanted, found = judge.answer(*question), " ".join(words)
         if found != wanted:
             sys.exit(f"judged: {name}: {question}: wanted {wanted}, found {found}")

@@ -91,7 +91,7 @@ def fault(reading, words, findings, kind, messages):
 def compare(name, cases):
     """Cases of a name, a file, and tftopl's messages and listing; the number of each class is printed."""
     met, refusals, tags, cases = Counter(), Counter(), Counter(), list(cases)
-    for (case, file, messages, theirs), (words, records, text) in zip(cases, ask([(file, WHOLE) for _, file, _, _ in cases])):
+    for (words, records, text), (case, file, messages, theirs) in zip(ask([(file, WHOLE) for _, file, _, _ in cases]), cases):
         reading = tftopl.Reading(file)
         findings = [(tag, first, second) for tag, _, first, second in struct.iter_unpack(">BHHH", records)]
         found = {tag for tag, _, _ in findings}
@@ -181,7 +181,7 @@ def check_sizes():
         sizes = [needs, (0, 0, 0, 0), tuple(n + r.randrange(1, 40) for n in needs)]
         for k, n in enumerate(needs):
             sizes += [(*needs[:k], size, *needs[k + 1 :]) for size in (0, max(n - 1, 0), n + 1)]
-        for size, (words, _, _) in zip(sizes, ask([(file, size) for size in sizes])):
+        for (words, _, _), size in zip(ask([(file, size) for size in sizes]), sizes):
             if words != (want := wanted(judge, text, size)):
                 sys.exit(f"listings: {path.name} on {size}: wanted {want}, found {words}")
             met[" ".join(words[:2]) if words[0] == "REFUSED" else words[0]] += 1
