@@ -1,7 +1,7 @@
 /* One font for bench/run. `list FILE` writes its listing, as tftopl does. `list FILE times` prints what calls in one process need and take:
  * entries of pair room, bytes of findings and of listing (0 where the listing does not fit), and then nanoseconds of a verdict, of a listing
  * and of clearing all that is lent, each with as many entries as are needed and with the largest pair room. `list FILE stack` prints the bytes
- * of stack that a verdict and a listing take. */
+ * of stack that a verdict, a listing, and all calls that settle no pairs take. */
 #define _POSIX_C_SOURCE 200809L
 #include <math.h>
 #include <pthread.h>
@@ -128,6 +128,22 @@ static uint8_t rest(void)
     return 0;
 }
 
+static uint8_t ask_the_others(void)
+{
+    uint16_t sizes[NYELGOMIR_SIZES];
+    size_t part[2];
+    double lengths[NYELGOMIR_EYE_LENGTHS];
+    uint8_t decimal[NYELGOMIR_DECIMAL_BYTES], text[NYELGOMIR_SENTENCE_BYTES];
+    nyelgomir_sizes(file, file_len, sizes);
+    nyelgomir_subfile(file, file_len, NYELGOMIR_PARAM, part);
+    nyelgomir_eye_lengths(file, file_len, 'A', lengths);
+    nyelgomir_decimal(UINT32_MAX, decimal);
+    nyelgomir_finding_words(NYELGOMIR_PIECE_MISSING, UINT16_MAX, 3, text, sizeof text);
+    nyelgomir_number_words(NYELGOMIR_NO_SUCH_CHARACTER, text, sizeof text);
+    nyelgomir_verdict_words(NYELGOMIR_LOOPING, text, sizeof text);
+    return 0;
+}
+
 static void *there(void *act)
 {
     (*(uint8_t(**)(void))act)();
@@ -153,7 +169,7 @@ static size_t touched(uint8_t act(void))
 static void print_stack(void)
 {
     size_t thread = touched(rest);
-    printf("%zu %zu\n", touched(judge) - thread, touched(list) - thread);
+    printf("%zu %zu %zu\n", touched(judge) - thread, touched(list) - thread, touched(ask_the_others) - thread);
 }
 
 int main(int argc, char **argv)
