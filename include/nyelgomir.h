@@ -110,7 +110,7 @@ enum { NYELGOMIR_LEFT_BOUNDARY = 256 };
 enum nyelgomir_finding {
     NYELGOMIR_JUNK_AT_END = 1,           /* bytes after the 4 * lf of the file: a remark */
     NYELGOMIR_STRING_TOO_LONG = 2,       /* string: its length is made 1 */
-    NYELGOMIR_PARENTHESIS_IN_STRING = 3, /* string, byte: made a stroke */
+    NYELGOMIR_PARENTHESIS_IN_STRING = 3, /* string, byte: made a slash */
     NYELGOMIR_ODD_BYTE_IN_STRING = 4,    /* string, byte: made a question mark */
     NYELGOMIR_BAD_DESIGN_SIZE = 5,       /* negative or under 1: listed as 10, bytes kept */
     NYELGOMIR_PARAMETER_COUNT = 6,       /* np: unusual for a mathematics font; a remark */
@@ -121,8 +121,8 @@ enum nyelgomir_finding {
     NYELGOMIR_BAD_START = 11,            /* character: its program is not in the table; tag set to 0 */
     NYELGOMIR_SKIPS_TOO_FAR = 12,        /* step: made to stop */
     NYELGOMIR_BAD_ADDRESS = 13,          /* step: kept */
-    NYELGOMIR_STEP_FOR_MISSING = 14,     /* step: its right code is made bc */
-    NYELGOMIR_LIGATURE_TO_MISSING = 15,  /* step: its ligature is made bc */
+    NYELGOMIR_STEP_FOR_MISSING = 14,     /* step: its right code is made bc, or 0 where bc is 256 */
+    NYELGOMIR_LIGATURE_TO_MISSING = 15,  /* step: its ligature is made bc, or 0 where bc is 256 */
     NYELGOMIR_BAD_KERN_INDEX = 16,       /* step: listed as a kern of 0, bytes kept */
     NYELGOMIR_ODD_LIGATURE_CODE = 17,    /* step: made 0 */
     NYELGOMIR_LOOP = 18,                 /* left, right: the smallest pair whose rewriting never ends */

@@ -4,8 +4,8 @@
 //! [`Refusal::PairRoomTooSmall`], [`Refusal::FindingsTooShort`] or [`Refusal::ListingTooShort`] every lent buffer is all zeros; every other
 //! refusal leaves them as they were found. After acceptance the pair room is all zeros, and bytes after what is written keep their values.
 //!
-//! [`verdict`], [`listing`] and [`pair`] settle pairs by calls that nest, 64 bytes of stack each: a font can be made that needs
-//! [`DEEPEST_STACK`] bytes, more than a thread of the standard library has by default.
+//! [`verdict`], [`listing`] and [`pair`] settle pairs by calls that nest, 64 bytes of stack each: a font can be made that needs more than a
+//! thread of the standard library has by default. [`DEEPEST_STACK`] bytes are enough.
 
 use std::fmt;
 
@@ -17,7 +17,7 @@ pub const LEFT_BOUNDARY: u32 = 256;
 /// Entries of a pair room that are always enough.
 pub const PAIR_ENTRIES: usize = 65_792;
 
-/// Bytes of stack that are always enough.
+/// Bytes of stack that are always enough; docs/BENCH.md has what was measured.
 pub const DEEPEST_STACK: usize = 8 << 20;
 
 const DECIMAL_BYTES: usize = 13;
