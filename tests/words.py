@@ -35,7 +35,7 @@ SENTENCES = {
     17: "Step {a} had an unknown ligature code; it was made a plain ligature.",
     18: "The pair of {code_a} and {code_b} is rewritten without end.",
     19: "Recipe {a} has a missing {piece}",
-    20: "The {table_b} index of character {code_a} is past its table; entry 0 is read.",
+    20: "The {table_b} index of character {code_a} is past its table; it counts as 0.",
     21: "The next larger character of {code_a} is missing; the link was taken away.",
     22: "The next larger characters of {code_a} come round to it again; its link was taken away.",
     23: "The recipe of character {code_a} is past the last recipe; it was taken away.",

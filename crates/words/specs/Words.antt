@@ -35,7 +35,7 @@ findings =
     ∷ codes "Step # had an unknown ligature code; it was made a plain ligature."
     ∷ codes "The pair of@ and& is rewritten without end."
     ∷ codes "Recipe # has a missing !"
-    ∷ codes "The ~ index of character@ is past its table; entry 0 is read."
+    ∷ codes "The ~ index of character@ is past its table; it counts as 0."
     ∷ codes "The next larger character of@ is missing; the link was taken away."
     ∷ codes "The next larger characters of@ come round to it again; its link was taken away."
     ∷ codes "The recipe of character@ is past the last recipe; it was taken away."

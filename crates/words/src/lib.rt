@@ -109,7 +109,7 @@ pub fn put_finding(out: &mut [u8], to: usize, tag: u8, first: u16, second: u16) 
             Step # had an unknown ligature code; it was made a plain ligature.\n\
             The pair of@ and& is rewritten without end.\n\
             Recipe # has a missing !\n\
-            The ~ index of character@ is past its table; entry 0 is read.\n\
+            The ~ index of character@ is past its table; it counts as 0.\n\
             The next larger character of@ is missing; the link was taken away.\n\
             The next larger characters of@ come round to it again; its link was taken away.\n\
             The recipe of character@ is past the last recipe; it was taken away.\n\
