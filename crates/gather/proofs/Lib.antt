@@ -1,5 +1,5 @@
 -- The laws of `gather` that belong to no one function
-mod Walks
+pub mod Walks
 mod Lists
 mod Bridge
 mod Ends

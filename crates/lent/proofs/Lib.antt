@@ -1,5 +1,6 @@
 -- The laws of `lent` that belong to no one function
 pub mod Answers
+pub mod Bools
 pub mod Branches
 pub mod Ends
 pub mod Lists

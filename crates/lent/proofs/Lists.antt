@@ -1,12 +1,13 @@
 -- Parts of a list, and the lists that loops make.
 use Prim.Native.Nat.{ℕ, zero, suc, _+_, _-_, _≤_, _<_, min}
-use native.Mathlib.Decide.{decLe}
+use native.Mathlib.Nat.{add-zero, add-suc, not-suc-le-zero}
+use native.Mathlib.Decide.{decLe, decLt}
 use native.Mathlib.Numerals.{add-one}
 use native.Mathlib.Omega.{arith}
 use mathlib.Core.Path.{_≡_, refl, sym, _∙_}
 use mathlib.Core.List.{List, [], _∷_, _++_, append-assoc, append-nil}
-use lib.ListN.{length, take, drop, set, getD, replicate, length-append, length-drop, drop-of-length-le}
-use lib.Seq.{take-all, drop-length, take-length, take-suc, drop-cons, set-at}
+use lib.ListN.{length, take, drop, set, getD, replicate, length-append, length-drop, drop-of-length-le, List·getD-append}
+use lib.Seq.{take-all, drop-length, take-length, take-suc, drop-cons, set-at, getD-at}
 use Rattle.lent.specs.Fold.{iterate, tabulate}
 
 -- `take` and `drop` stop at the end of the list
@@ -74,3 +75,20 @@ copied s l l′ i n e en ei =
 -- a loop that fills a list has filled all of it
 pub filled : (l s : List ℕ) (v i : ℕ) → l ≡ replicate i v ++ drop i s → i ≡ length s → l ≡ replicate (length s) v
 filled l s v i e h = e ∙ rw (h, drop-length, append-nil)
+
+-- byte i of the bytes that g gives is g i
+pub getD-tabulate : (g : ℕ → ℕ) (n i : ℕ) → i < n → getD (tabulate g n) i 0 ≡ g i
+unfolding tabulate
+getD-tabulate g zero i h = absurd (not-suc-le-zero h)
+getD-tabulate g (suc n) i h =
+    let m = length-tabulate g n in
+    elim (decLt i n) [
+      | yes q ↦ List·getD-append (tabulate g n) (g n ∷ []) 0 i (omega arith) ∙ getD-tabulate g n i q
+      | no q ↦ let e : i ≡ n = omega arith in rw e (getD-at (tabulate g n) (g n) [] 0 n m)
+    ]
+
+-- what is joined first stays in front
+pub joined-front : (g : ℕ → List ℕ) (k d : ℕ) → (rest : List ℕ) × (iterate (λ s i. s ++ g i) [] (k + d) ≡ iterate (λ s i. s ++ g i) [] k ++ rest)
+unfolding iterate
+joined-front g k zero = ([], rw add-zero (sym (append-nil _)))
+joined-front g k (suc d) = let (rest, e) = joined-front g k d in (rest ++ g (k + d), rw (add-suc, e, append-assoc))

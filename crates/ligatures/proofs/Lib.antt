@@ -1,3 +1,3 @@
 -- The laws of `ligatures` that belong to no one function
 mod Labelled
-mod Ways
+pub mod Ways

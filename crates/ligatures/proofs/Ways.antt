@@ -33,7 +33,7 @@ pub record Within (low high e : ℕ) : Type 0 where
   pub least : low ≤ e
   pub most : e ≤ high
 
-run-within : (m : List ℕ) (k i : ℕ) → Within i (i + k) (runEnd m k i)
+pub run-within : (m : List ℕ) (k i : ℕ) → Within i (i + k) (runEnd m k i)
 unfolding runEnd
 run-within m zero i = record { least = omega arith; most = omega arith }
 run-within m (suc k) i =
@@ -43,7 +43,7 @@ run-within m (suc k) i =
     ]
 
 -- a piece ends after its start, and in the table
-end-within : (m : List ℕ) (nl i : ℕ) → i < nl → Within (i + 1) nl (pieceEnd m nl i)
+pub end-within : (m : List ℕ) (nl i : ℕ) → i < nl → Within (i + 1) nl (pieceEnd m nl i)
 unfolding pieceEnd
 end-within m nl i h =
     elim (ℕ-discrete (getD m i 0) 0) [

@@ -12,7 +12,7 @@ use lib.Seq.{length-take-le, take-at, drop-at, getD-at, getD-take}
 use borrow.Author.Tests.{ltb-true}
 use Rattle.lent.specs.Fold.{iterate, tabulate}
 use Rattle.lent.specs.Write.{byte, each, flat}
-use Rattle.lent.proofs.Lists.{length-tabulate}
+use Rattle.lent.proofs.Lists.{length-tabulate, getD-tabulate, joined-front}
 use Rattle.tfm.specs.Sizes.{sizeAt, layoutOf, numberOf}
 use Rattle.tfm.specs.Subfiles.{countOf, startOf, tableOf}
 use Rattle.tfm.specs.declared.Layout.{Layout}
@@ -26,12 +26,6 @@ unfolding flat iterate tabulate
 flat-bytes g zero = refl
 flat-bytes g (suc n) = ap (λ (s : List ℕ). s ++ (g n ∷ [])) (flat-bytes g n)
 
--- what is joined first stays in front
-in-front : (g : ℕ → List ℕ) (k d : ℕ) → (rest : List ℕ) × (iterate (λ s i. s ++ g i) [] (k + d) ≡ iterate (λ s i. s ++ g i) [] k ++ rest)
-unfolding iterate
-in-front g k zero = ([], rw add-zero (sym (append-nil _)))
-in-front g k (suc d) = let (rest, e) = in-front g k d in (rest ++ g (k + d), rw (add-suc, e, append-assoc))
-
 -- turns that do the same make the same
 pub same-turns : (g h : List ℕ → ℕ → List ℕ) (a : List ℕ) (n : ℕ) → ((x : List ℕ) (i : ℕ) → i < n → g x i ≡ h x i) → iterate g a n ≡ iterate h a n
 unfolding iterate
@@ -43,17 +37,6 @@ same-bytes : (g h : ℕ → ℕ) (n : ℕ) → ((i : ℕ) → i < n → g i ≡ 
 unfolding tabulate
 same-bytes g h zero p = refl
 same-bytes g h (suc n) p = rw (same-bytes g h n (λ i q. p i (omega arith)), p n (omega arith))
-
--- byte i of the bytes that g gives is g i
-getD-tabulate : (g : ℕ → ℕ) (n i : ℕ) → i < n → getD (tabulate g n) i 0 ≡ g i
-unfolding tabulate
-getD-tabulate g zero i h = absurd (not-suc-le-zero h)
-getD-tabulate g (suc n) i h =
-    let m = length-tabulate g n in
-    elim (decLt i n) [
-      | yes q ↦ List·getD-append (tabulate g n) (g n ∷ []) 0 i (omega arith) ∙ getD-tabulate g n i q
-      | no q ↦ let e : i ≡ n = omega arith in rw e (getD-at (tabulate g n) (g n) [] 0 n m)
-    ]
 
 -- byte i of subfile k of the copy
 abbrev pub made : List ℕ → Layout → ℕ → ℕ → ℕ
@@ -109,7 +92,7 @@ module _ (f : List ℕ) (l : Layout) (later : ℕ) (e : numberOf f l later ≡ 0
     pub copy-table : (k : ℕ) → k ≤ 9 → tableOf (mended f l ++ r) l k ≡ tabulate (made f l k) (4 * countOf l k)
     unfolding tableOf upTo iterate
     copy-table k h =
-        let (rest, q) = in-front (part f l) (suc k) (9 - k) in
+        let (rest, q) = joined-front (part f l) (suc k) (9 - k) in
         let ten : suc k + (9 - k) ≡ 10 = omega arith in
         let split : mended f l ++ r ≡ upTo f l k ++ (part f l k ++ (rest ++ r)) = rw (all f l, rw ten at q) (simp append-assoc) in
         rw (split, drop-at (upTo f l k) _ (4 * startOf l k) (length-upTo k), part-made)

@@ -1,0 +1,2 @@
+-- The laws of `program` that belong to no one function
+pub mod Starts
