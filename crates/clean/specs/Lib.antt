@@ -1,0 +1,3 @@
+-- The steps that programs meet, and what a verdict of clean says
+pub mod Met
+pub mod Clean

@@ -1,0 +1,1 @@
+// The laws of files that are judged clean. The crate has definitions and proofs only.
