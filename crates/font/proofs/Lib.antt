@@ -1,0 +1,2 @@
+-- The laws of fonts
+pub mod Same

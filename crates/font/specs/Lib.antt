@@ -1,0 +1,5 @@
+-- What a property list says of a font
+pub mod Font
+pub mod Told
+pub mod Checked
+pub mod Read
