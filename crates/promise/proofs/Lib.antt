@@ -1,0 +1,23 @@
+-- The proof of the promise
+pub mod Follow
+pub mod Listing
+pub mod Alike
+pub mod Programs
+pub mod Tags
+pub mod Keeps
+pub mod Promise
+pub mod More
+pub mod Anew
+pub mod AnewCodes
+pub mod AnewWords
+pub mod CleanAgain
+pub mod Numbers
+pub mod Sanely
+pub mod Promised
+pub mod AgainLists
+pub mod AgainMarks
+pub mod AgainHeader
+pub mod AgainFont
+pub mod AgainPlain
+pub mod Again
+pub mod Example

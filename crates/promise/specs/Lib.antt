@@ -1,0 +1,2 @@
+-- What is kept of a file when its listing is read back
+pub mod Promise
