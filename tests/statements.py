@@ -29,7 +29,7 @@ def main():
         functions.update(public(root, root.parts[-3]))
     faults = [f"{f} has a requires" for f, head in functions.items() if "\n    requires" in head]
     faults += [f"{f} has no ensures" for f, head in functions.items() if "\n    ensures" not in head]
-    listed = set(re.findall(r"^\| `([\w:]+)`", (ROOT / "docs" / "STATEMENTS.md").read_text(), re.M))
+    listed = set(re.findall(r"^\| `(\w+::[\w:]+)`", (ROOT / "docs" / "STATEMENTS.md").read_text(), re.M))
     faults += [f"{f} is not in docs/STATEMENTS.md" for f in sorted(set(functions) - listed)]
     faults += [f"docs/STATEMENTS.md speaks of {f}, which is not there" for f in sorted(listed - set(functions))]
     if faults:
