@@ -4,7 +4,7 @@ use mathlib.Core.Path.{_≡_, refl, sym, ap, _∙_, subst}
 use mathlib.Core.Bool.{Bool, true, false, true≢false}
 use mathlib.Core.List.{List, []}
 use Rattle.tfm.specs.Sizes.{layoutOf, numberOf}
-use Rattle.reading.specs.Read.{Answer, accepts, refuses}
+use Rattle.reading.specs.Read.{Response, accepts, refuses}
 use Rattle.font.specs.Font.{Font}
 use Rattle.font.specs.Read.{readFont}
 use Rattle.building.specs.Written.{tooMuch, written}
@@ -13,11 +13,11 @@ use Rattle.building.specs.Build.{fileFor, fileOf, build}
 use Rattle.building.proofs.Accepts.{fits, written-accepted}
 
 -- what an answer holds, and whether it is a file
-abbrev pub fileIn : Answer (List ℕ) → List ℕ
+abbrev pub fileIn : Response (List ℕ) → List ℕ
 fileIn (accepts g) = g
 fileIn (refuses n) = []
 
-abbrev pub isFile : Answer (List ℕ) → Bool
+abbrev pub isFile : Response (List ℕ) → Bool
 isFile (accepts g) = true
 isFile (refuses n) = false
 
@@ -38,7 +38,7 @@ pub build-accepted : (text g : List ℕ) → build text ≡ accepts g → number
 unfolding build fileOf
 build-accepted text g e = go (readFont text) e
   where
-    go : (a : Answer Font) → fileOf a ≡ accepts g → numberOf g (layoutOf g) 0 ≡ 0
+    go : (a : Response Font) → fileOf a ≡ accepts g → numberOf g (layoutOf g) 0 ≡ 0
     go (accepts F) q =
         let h = filed (repaired F) g q in
         subst (λ (x : List ℕ). numberOf x (layoutOf x) 0 ≡ 0) (h .same) (written-accepted (repaired F) (fits (repaired F) (h .few)))

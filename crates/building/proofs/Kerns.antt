@@ -15,7 +15,7 @@ use Rattle.tfm.specs.Characters.{byteOf}
 use Rattle.tfm.specs.Lengths.{wordOf}
 use Rattle.program.specs.Steps.{addressOf, boundaryChar}
 use Rattle.font.specs.Font.{Font, Instruction}
-use Rattle.building.specs.Values.{place, joined, kernsFrom}
+use Rattle.building.specs.Values.{place, kernJoined, kernsFrom}
 use Rattle.font.specs.Checked.{noStep, programWords, stepAt}
 use Rattle.building.specs.Written.{kerns, edge, moved, front, frontByte, byteIn, sizesFor, partFor, written}
 use Rattle.building.proofs.Places.{In, head, tail, in-place, reads-back, in-front, in-last, append-out, only-one}
@@ -33,15 +33,15 @@ place-in (v ∷ vs) w h = go (eqb v w) refl (place-in vs w) h
     go true e ih k = head (eqb-true v w e)
     go false e ih k = tail (ih (omega arith))
 
-in-joined : (ks : List ℕ) (w : ℕ) → In w (joined ks w)
-unfolding joined
+in-joined : (ks : List ℕ) (w : ℕ) → In w (kernJoined ks w)
+unfolding kernJoined
 in-joined ks w = elim (decLt (place ks w) (length ks)) [
   | yes h ↦ rw (lt-ltb (place ks w) (length ks) h) (place-in ks w h)
   | no h ↦ rw (le-ltb (place ks w) (length ks) (omega arith)) (in-last w ks)
 ]
 
-in-joined-old : (ks : List ℕ) (w u : ℕ) → In u ks → In u (joined ks w)
-unfolding joined
+in-joined-old : (ks : List ℕ) (w u : ℕ) → In u ks → In u (kernJoined ks w)
+unfolding kernJoined
 in-joined-old ks w u i = go (ltb (place ks w) (length ks))
   where
     go : (b : Bool) → In u (cond b ks (ks ++ (w ∷ [])))
@@ -53,7 +53,7 @@ unfolding kernsFrom
 kerns-old [] ks u i = i
 kerns-old (x ∷ is) ks u i = kerns-old is _ u (go (leb 128 (x .op)))
   where
-    go : (b : Bool) → In u (cond b (joined ks (x .value)) ks)
+    go : (b : Bool) → In u (cond b (kernJoined ks (x .value)) ks)
     go true = in-joined-old ks (x .value) u i
     go false = i
 
@@ -126,8 +126,8 @@ module _ (F : Font) (r : Runs F) where
 pub data Kern (is : List Instruction) : ℕ → Type 0 where
   kern : (k : ℕ) → k < length is → 128 ≤ getD is k noStep .op → Kern is (getD is k noStep .value)
 
-joined-out : (ks : List ℕ) (w u : ℕ) → In u (joined ks w) → In u ks ⊎ (w ≡ u)
-unfolding joined
+joined-out : (ks : List ℕ) (w u : ℕ) → In u (kernJoined ks w) → In u ks ⊎ (w ≡ u)
+unfolding kernJoined
 joined-out ks w u = go (ltb (place ks w) (length ks))
   where
     go : (b : Bool) → In u (cond b ks (ks ++ (w ∷ []))) → In u ks ⊎ (w ≡ u)
@@ -137,12 +137,12 @@ joined-out ks w u = go (ltb (place ks w) (length ks))
 kerns-out : (is : List Instruction) (ks : List ℕ) (u : ℕ) → In u (kernsFrom ks is) → In u ks ⊎ Kern is u
 unfolding kernsFrom
 kerns-out [] ks u i = inl i
-kerns-out (x ∷ is) ks u i = ⊎-elim (λ (j : In u (cond (leb 128 (x .op)) (joined ks (x .value)) ks)). go (leb 128 (x .op)) refl j) (λ (j : Kern is u). inr (later j)) (kerns-out is _ u i)
+kerns-out (x ∷ is) ks u i = ⊎-elim (λ (j : In u (cond (leb 128 (x .op)) (kernJoined ks (x .value)) ks)). go (leb 128 (x .op)) refl j) (λ (j : Kern is u). inr (later j)) (kerns-out is _ u i)
   where
     later : {v : ℕ} → Kern is v → Kern (x ∷ is) v
     later (kern k h o) = kern (suc k) (omega arith) o
 
-    go : (b : Bool) → leb 128 (x .op) ≡ b → In u (cond b (joined ks (x .value)) ks) → In u ks ⊎ Kern (x ∷ is) u
+    go : (b : Bool) → leb 128 (x .op) ≡ b → In u (cond b (kernJoined ks (x .value)) ks) → In u ks ⊎ Kern (x ∷ is) u
     go true e j = ⊎-elim (λ k. inl k) (λ (k : x .value ≡ u). inr (subst (Kern (x ∷ is)) k (kern 0 (omega arith) (leb-true 128 (x .op) e)))) (joined-out ks (x .value) u j)
     go false e j = inl j
 

@@ -22,7 +22,7 @@ use Rattle.building.specs.Values as Tables
 use Rattle.building.specs.Written as Written
 use Rattle.building.specs.Repaired as Repaired
 use Rattle.building.specs.Build as Build
-use Rattle.reading.specs.Read.{Answer, accepts, refuses}
+use Rattle.reading.specs.Read.{Response, accepts, refuses}
 use Rattle.building.specs.Build.{build}
 
 -- the twelve sizes as bytes
@@ -31,7 +31,7 @@ halves [] = []
 halves (n ∷ ns) = n / 256 ∷ n % 256 ∷ halves ns
 
 -- a file by its sizes, its check sum, the flag of a seven-bit safe font and what follows the header, which says no more
-abbrev file : List ℕ → List ℕ → ℕ → List ℕ → Answer (List ℕ)
+abbrev file : List ℕ → List ℕ → ℕ → List ℕ → Response (List ℕ)
 file sizes sum flag rest =
     accepts
     (halves sizes ++ (sum ++ (0 ∷ 160 ∷ 0 ∷ 0 ∷ 11 ∷ codes "UNSPECIFIED" ++ (replicate 28 0 ++ (11 ∷ codes "UNSPECIFIED" ++ (replicate 8 0 ++ (flag ∷ 0 ∷ 0 ∷ 0 ∷ rest)))))))
@@ -57,5 +57,5 @@ pub marked :
     × (build (codes "(CHARACTER O 1 (NEXTLARGER O 2))(CHARACTER O 2 (NEXTLARGER O 1))(CHARACTER O 3 (NEXTLARGER O 4))") ≡ file (33 ∷ 18 ∷ 1 ∷ 4 ∷ 2 ∷ 1 ∷ 1 ∷ 1 ∷ 0 ∷ 0 ∷ 0 ∷ 0 ∷ []) (165 ∷ 12 ∷ 68 ∷ 53 ∷ []) 128 (1 ∷ 0 ∷ 2 ∷ 2 ∷ 1 ∷ 0 ∷ 0 ∷ 1 ∷ 1 ∷ 0 ∷ 2 ∷ 4 ∷ 1 ∷ 0 ∷ 0 ∷ 0 ∷ 0 ∷ 0 ∷ 0 ∷ 0 ∷ 0 ∷ 0 ∷ 0 ∷ 0 ∷ 0 ∷ 0 ∷ 0 ∷ 0 ∷ 0 ∷ 0 ∷ 0 ∷ 0 ∷ 0 ∷ 0 ∷ 0 ∷ 0 ∷ []))
     -- code 1 is made by 2, too late for its program to be looked at: the codes of its step become 0, and no code below 128 leads to 200
     × (build (codes "(CHARACTER O 2 (NEXTLARGER O 1))(LIGTABLE (LABEL O 1)(LIG O 3 O 310))") ≡ file (33 ∷ 18 ∷ 0 ∷ 2 ∷ 2 ∷ 1 ∷ 1 ∷ 1 ∷ 1 ∷ 0 ∷ 0 ∷ 0 ∷ []) (8 ∷ 232 ∷ 247 ∷ 167 ∷ []) 128 (1 ∷ 0 ∷ 0 ∷ 0 ∷ 1 ∷ 0 ∷ 1 ∷ 0 ∷ 1 ∷ 0 ∷ 2 ∷ 1 ∷ 0 ∷ 0 ∷ 0 ∷ 0 ∷ 0 ∷ 0 ∷ 0 ∷ 0 ∷ 0 ∷ 0 ∷ 0 ∷ 0 ∷ 0 ∷ 0 ∷ 0 ∷ 0 ∷ 0 ∷ 0 ∷ 0 ∷ 0 ∷ 128 ∷ 0 ∷ 0 ∷ 0 ∷ []))
-unfolding iterate tabulate between alphanumeric sizeList countOf upper reaches Forest.markOf Forest.past Forest.inName Forest.nameAt Forest.afterName Forest.nameOf Forest.restOf Forest.same Forest.isComment Forest.step Forest.feed Forest.parse Numbers.bounded Numbers.ranged Numbers.digitOf Numbers.digitsIn Numbers.letterIn Numbers.placeIn Numbers.faceOf Numbers.faceIn Numbers.codeOf Numbers.codeAt Numbers.codeIn Numbers.wordAfter Numbers.wordAt Numbers.wordIn Numbers.signed Numbers.parts Numbers.placesIn Numbers.pointIn Numbers.signsIn Numbers.realAt Numbers.realIn Numbers.printable Numbers.capitals Heads.allBlank Heads.closed Heads.leads Heads.states Heads.goes Heads.spells Heads.flagAt Heads.any Heads.small Heads.numbersWord Heads.atTop Heads.numberIn Heads.parameterNames Heads.boundOf Heads.parameterOf Heads.inFontdimen Heads.ligatureNames Heads.labelAt Heads.kernIn Heads.ligatureIn Heads.before Heads.inLigtable Heads.widthAt Heads.inCharacter Heads.inVarchar Heads.entryIn Heads.hasList Heads.entryOf Reading.tells Reading.entered Reading.enter Reading.leaves Reading.leave Reading.walk Reading.judged Reading.readForest Reading.read Told.blank Told.headed Told.measured Told.edged Told.tagged Told.programmed Told.widened Told.heightened Told.deepened Told.slanted Told.placed Told.at Told.joined Told.labelled Told.stepped Told.skips Told.ended Told.legitimate Told.pieced Told.told Checked.wordByte Checked.stepAt Checked.hasLeft Checked.programWords Checked.wordAt Checked.among Checked.firstWords Checked.wordsFor Checked.namedIn Checked.pieceNamed Checked.piecesOf Checked.namedBy Checked.legitimates Checked.insertsOver Checked.anyOver Checked.leadsOver Checked.look Checked.lookIf Checked.lookedTo Checked.looked Fonts.worded Fonts.flagged Fonts.readFont Pick.rank Pick.picked Pick.least Pick.bound Tables.place Tables.insert Tables.distinct Tables.signedLess Tables.joined Tables.kernsFrom Written.table Written.firstCode Written.lastCode Written.inFile Written.widthIndex Written.lengthIndex Written.starts Written.edge Written.movedFrom Written.moved Written.front Written.frontAddress Written.frontByte Written.stepByte Written.endAddress Written.endByte Written.programByte Written.newRemainder Written.infoByte Written.lettersByte Written.summand Written.summed Written.computedSum Written.headerByte Written.byteIn Written.sizesFor Written.tooMuch Written.sizeByte Written.partFor Written.written Repaired.every Repaired.stays Repaired.stepStays Repaired.keptStep Repaired.recipeStays Repaired.keptPiece Repaired.keptRecipe Repaired.allStay Repaired.replaced Repaired.endsCycle Repaired.uncycled Repaired.repaired Build.fileFor Build.fileOf Build.build
+unfolding iterate tabulate between alphanumeric sizeList countOf upper reaches Forest.markOf Forest.past Forest.inName Forest.nameAt Forest.afterName Forest.nameOf Forest.restOf Forest.same Forest.isComment Forest.step Forest.feed Forest.parse Numbers.bounded Numbers.ranged Numbers.digitOf Numbers.digitsIn Numbers.letterIn Numbers.placeIn Numbers.faceOf Numbers.faceIn Numbers.codeOf Numbers.codeAt Numbers.codeIn Numbers.wordAfter Numbers.wordAt Numbers.wordIn Numbers.signed Numbers.parts Numbers.placesIn Numbers.pointIn Numbers.signsIn Numbers.realAt Numbers.realIn Numbers.printable Numbers.capitals Heads.allBlank Heads.closed Heads.leads Heads.states Heads.leadsOn Heads.spells Heads.flagAt Heads.any Heads.small Heads.numbersWord Heads.atTop Heads.numberIn Heads.parameterNames Heads.boundOf Heads.parameterOf Heads.inFontdimen Heads.ligatureNames Heads.labelAt Heads.kernIn Heads.ligatureIn Heads.before Heads.inLigtable Heads.widthAt Heads.inCharacter Heads.inVarchar Heads.entryIn Heads.hasList Heads.entryOf Reading.tells Reading.entered Reading.enter Reading.leaves Reading.leave Reading.walk Reading.concluded Reading.readForest Reading.read Told.blank Told.headed Told.measured Told.edged Told.tagged Told.programmed Told.widened Told.heightened Told.deepened Told.slanted Told.placed Told.at Told.lengthJoined Told.labelled Told.stepped Told.skips Told.ended Told.legitimate Told.pieced Told.told Checked.wordByte Checked.stepAt Checked.hasLeft Checked.programWords Checked.wordAt Checked.among Checked.firstWords Checked.wordsFor Checked.namedIn Checked.pieceNamed Checked.piecesOf Checked.namedBy Checked.legitimates Checked.insertsOver Checked.anyOver Checked.leadsOver Checked.checkCode Checked.checkIf Checked.checkedTo Checked.checkedAll Fonts.worded Fonts.flagged Fonts.readFont Pick.rank Pick.picked Pick.least Pick.bound Tables.place Tables.insert Tables.distinct Tables.signedLess Tables.kernJoined Tables.kernsFrom Written.table Written.firstCode Written.lastCode Written.inFile Written.widthIndex Written.lengthIndex Written.starts Written.edge Written.movedFrom Written.moved Written.front Written.frontAddress Written.frontByte Written.stepByte Written.endAddress Written.endByte Written.programByte Written.newRemainder Written.infoByte Written.lettersByte Written.summand Written.summed Written.computedSum Written.headerByte Written.byteIn Written.sizesFor Written.tooMuch Written.sizeByte Written.partFor Written.written Repaired.every Repaired.stays Repaired.stepStays Repaired.keptStep Repaired.recipeStays Repaired.keptPiece Repaired.keptRecipe Repaired.allStay Repaired.replaced Repaired.closesCycle Repaired.uncycled Repaired.repaired Build.fileFor Build.fileOf Build.build
 marked = (refl, refl, refl, refl, refl, refl, refl, refl, refl, refl, refl)

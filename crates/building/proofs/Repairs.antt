@@ -11,7 +11,7 @@ use borrow.Author.Tests.{lt-ltb, eq-eqb, ne-eqb, ltb-true, eqb-true}
 use Rattle.lent.specs.Fold.{iterate}
 use Rattle.font.specs.Font.{Instruction, Font}
 use Rattle.font.specs.Told.{legitimate}
-use Rattle.font.specs.Checked.{wordByte, noStep, stepAt, programWords, wordAt, among, firstWords, wordsFor, namedIn, pieceNamed, piecesOf, namedBy, legitimates, Looked, look, lookIf, lookedTo, looked}
+use Rattle.font.specs.Checked.{wordByte, noStep, stepAt, programWords, wordAt, among, firstWords, wordsFor, namedIn, pieceNamed, piecesOf, namedBy, legitimates, Checking, checkCode, checkIf, checkedTo, checkedAll}
 use Rattle.building.specs.Repaired.{every, stays, stepStays, keptStep, recipeStays, keptRecipe, allStay, replaced, uncycled, repaired}
 use Rattle.building.specs.Sane.{Sane}
 
@@ -143,20 +143,20 @@ module _ (F : Font) (s : Sane F) where
     ])
   ]
 
-  look-none : (k : Looked) (b : Bool) (c : ℕ) → (b ≡ true → every present (namedBy F c) ≡ true) → k .font ≡ F → lookIf b k c .font ≡ F
-  unfolding lookIf look
+  look-none : (k : Checking) (b : Bool) (c : ℕ) → (b ≡ true → every present (namedBy F c) ≡ true) → k .font ≡ F → checkIf b k c .font ≡ F
+  unfolding checkIf checkCode
   look-none k true c h e = ap (λ G. legitimates G (namedBy G c)) e ∙ legitimate-none (namedBy F c) (h refl)
   look-none k false c h e = e
 
-  looked-none : (n : ℕ) → n ≤ 256 → lookedTo F n .font ≡ F
-  unfolding lookedTo iterate
+  looked-none : (n : ℕ) → n ≤ 256 → checkedTo F n .font ≡ F
+  unfolding checkedTo iterate
   looked-none zero h = refl
-  looked-none (suc n) h = look-none (lookedTo F n) _ n (λ q. named-all n h) (looked-none n (omega arith))
+  looked-none (suc n) h = look-none (checkedTo F n) _ n (λ q. named-all n h) (looked-none n (omega arith))
 
-  all-looked : looked F .font ≡ F
-  unfolding looked namedBy
+  all-looked : checkedAll F .font ≡ F
+  unfolding checkedAll namedBy
   all-looked =
-      look-none (lookedTo F 256) (eqb (F .program .tag 256) 1) 256
+      look-none (checkedTo F 256) (eqb (F .program .tag 256) 1) 256
       (λ q. rw q (named-label 256 (omega arith) (eqb-true (F .program .tag 256) 1 q)))
       (looked-none 256 (omega arith))
 

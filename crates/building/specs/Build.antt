@@ -2,18 +2,18 @@
 use Prim.Native.Nat.{ℕ}
 use mathlib.Core.Bool.{cond}
 use mathlib.Core.List.{List}
-use Rattle.reading.specs.Read.{Answer, accepts, refuses}
+use Rattle.reading.specs.Read.{Response, accepts, refuses}
 use Rattle.font.specs.Font.{Font}
 use Rattle.font.specs.Read.{readFont}
 use Rattle.building.specs.Repaired.{repaired}
 use Rattle.building.specs.Written.{tooMuch, written}
 
-unfoldable pub fileFor : Font → Answer (List ℕ)
+unfoldable pub fileFor : Font → Response (List ℕ)
 fileFor F = cond (tooMuch F) (refuses 21) (accepts (written F))
 
-unfoldable pub fileOf : Answer Font → Answer (List ℕ)
+unfoldable pub fileOf : Response Font → Response (List ℕ)
 fileOf (accepts F) = fileFor (repaired F)
 fileOf (refuses n) = refuses n
 
-unfoldable pub build : List ℕ → Answer (List ℕ)
+unfoldable pub build : List ℕ → Response (List ℕ)
 build text = fileOf (readFont text)

@@ -7,7 +7,7 @@ use Rattle.lent.specs.Fold.{iterate}
 use Rattle.faults.specs.Cycle.{reaches}
 use Rattle.font.specs.Font.{Instruction, Font}
 use Rattle.font.specs.Told.{withProgram, at, tagged, legitimate}
-use Rattle.font.specs.Checked.{wordByte, looked}
+use Rattle.font.specs.Checked.{wordByte, checkedAll}
 
 unfoldable pub every : {A : Type 0} → (A → Bool) → List A → Bool
 every p [] = true
@@ -58,13 +58,13 @@ replaced F =
     })
 
 -- §113: the largest code of a cycle of NEXTLARGER loses its tag
-unfoldable pub endsCycle : Font → ℕ → Bool
-endsCycle F c =
+unfoldable pub closesCycle : Font → ℕ → Bool
+closesCycle F c =
     eqb (F .program .tag c) 2 && reaches (λ g. eqb (F .program .tag g) 2) (F .program .remainder) c 256 (F .program .remainder c)
 
 unfoldable pub uncycled : Font → ℕ → Font
-uncycled F c = cond (endsCycle F c) (tagged F (at (F .program .tag) c 0) (F .program .remainder) (F .program .recipes)) F
+uncycled F c = cond (closesCycle F c) (tagged F (at (F .program .tag) c 0) (F .program .remainder) (F .program .recipes)) F
 
 -- §110: first each code that a used part names is made to exist
 unfoldable pub repaired : Font → Font
-repaired F = iterate uncycled (replaced (looked F .font)) 256
+repaired F = iterate uncycled (replaced (checkedAll F .font)) 256

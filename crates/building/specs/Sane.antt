@@ -5,7 +5,7 @@ use mathlib.Core.Bool.{true, false}
 use lib.ListN.{length, getD}
 use Rattle.font.specs.Font.{Font}
 use Rattle.font.specs.Checked.{stepAt}
-use Rattle.building.specs.Repaired.{stepStays, recipeStays, endsCycle}
+use Rattle.building.specs.Repaired.{stepStays, recipeStays, closesCycle}
 
 pub record Sane (F : Font) : Type 0 where
   -- each label stands before a step, and a step that does not stop leads on to one
@@ -18,4 +18,4 @@ pub record Sane (F : Font) : Type 0 where
   pub numbers : (c : ℕ) → c < 256 → F .program .tag c ≡ 3 → F .program .remainder c < length (F .program .recipes)
   pub links : (c : ℕ) → c < 256 → F .program .tag c ≡ 2 → F .characters .present (F .program .remainder c) ≡ true
   -- no cycle of links
-  pub acyclic : (c : ℕ) → c < 256 → endsCycle F c ≡ false
+  pub acyclic : (c : ℕ) → c < 256 → closesCycle F c ≡ false

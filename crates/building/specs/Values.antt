@@ -29,9 +29,9 @@ abbrev pub greater : ℕ → ℕ → Bool
 greater v w = ltb w v
 
 -- §102: a kern's word joins the table unless it is there
-unfoldable pub joined : List ℕ → ℕ → List ℕ
-joined ks w = cond (ltb (place ks w) (length ks)) ks (ks ++ (w ∷ []))
+unfoldable pub kernJoined : List ℕ → ℕ → List ℕ
+kernJoined ks w = cond (ltb (place ks w) (length ks)) ks (ks ++ (w ∷ []))
 
 unfoldable pub kernsFrom : List ℕ → List Instruction → List ℕ
 kernsFrom ks [] = ks
-kernsFrom ks (i ∷ is) = kernsFrom (cond (leb 128 (i .op)) (joined ks (i .value)) ks) is
+kernsFrom ks (i ∷ is) = kernsFrom (cond (leb 128 (i .op)) (kernJoined ks (i .value)) ks) is

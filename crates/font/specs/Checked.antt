@@ -89,18 +89,18 @@ leadsOver F c =
     (ltb c 128 || eqb c 256) && cond (eqb (F .program .tag c) 1) (insertsOver F (wordsFor F c)) (anyOver (namedBy F c))
 
 -- §110: the codes that exist by then are looked at in their order, and last the left boundary
-pub record Looked : Type 0 where
+pub record Checking : Type 0 where
   pub font : Font
   pub over : Bool
 
-unfoldable pub look : Looked → ℕ → Looked
-look k c = record { font = legitimates (k .font) (namedBy (k .font) c); over = k .over || leadsOver (k .font) c }
+unfoldable pub checkCode : Checking → ℕ → Checking
+checkCode k c = record { font = legitimates (k .font) (namedBy (k .font) c); over = k .over || leadsOver (k .font) c }
 
-unfoldable pub lookIf : Bool → Looked → ℕ → Looked
-lookIf b k c = cond b (look k c) k
+unfoldable pub checkIf : Bool → Checking → ℕ → Checking
+checkIf b k c = cond b (checkCode k c) k
 
-unfoldable pub lookedTo : Font → ℕ → Looked
-lookedTo F n = iterate (λ k c. lookIf (k .font .characters .present c) k c) (record { font = F; over = false }) n
+unfoldable pub checkedTo : Font → ℕ → Checking
+checkedTo F n = iterate (λ k c. checkIf (k .font .characters .present c) k c) (record { font = F; over = false }) n
 
-unfoldable pub looked : Font → Looked
-looked F = lookIf (eqb (F .program .tag 256) 1) (lookedTo F 256) 256
+unfoldable pub checkedAll : Font → Checking
+checkedAll F = checkIf (eqb (F .program .tag 256) 1) (checkedTo F 256) 256

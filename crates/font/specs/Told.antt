@@ -140,8 +140,8 @@ unfoldable pub at : {A : Type 0} → (ℕ → A) → ℕ → A → ℕ → A
 at g c v x = cond (eqb x c) v (g x)
 
 -- §75: a length of 0 joins no table but that of widths
-unfoldable pub joined : List ℕ → ℕ → List ℕ
-joined ws w = cond (eqb w 0) ws (ws ++ (w ∷ []))
+unfoldable pub lengthJoined : List ℕ → ℕ → List ℕ
+lengthJoined ws w = cond (eqb w 0) ws (ws ++ (w ∷ []))
 
 -- §97: a label stands before the next step
 unfoldable pub labelled : Font → ℕ → Font
@@ -204,9 +204,9 @@ told D (skip n) = ended D n (max (D .font .program .least) (length (D .font .pro
 told D (width c w) =
     record { font = widened (D .font) (at (D .font .characters .present) c true) (at (D .font .characters .width) c w) (D .font .characters .widths ++ (w ∷ [])); armed = D .armed }
 told D (height c w) =
-    record { font = heightened (D .font) (at (D .font .characters .height) c w) (joined (D .font .characters .heights) w); armed = D .armed }
-told D (depth c w) = record { font = deepened (D .font) (at (D .font .characters .depth) c w) (joined (D .font .characters .depths) w); armed = D .armed }
-told D (italic c w) = record { font = slanted (D .font) (at (D .font .characters .italic) c w) (joined (D .font .characters .italics) w); armed = D .armed }
+    record { font = heightened (D .font) (at (D .font .characters .height) c w) (lengthJoined (D .font .characters .heights) w); armed = D .armed }
+told D (depth c w) = record { font = deepened (D .font) (at (D .font .characters .depth) c w) (lengthJoined (D .font .characters .depths) w); armed = D .armed }
+told D (italic c w) = record { font = slanted (D .font) (at (D .font .characters .italic) c w) (lengthJoined (D .font .characters .italics) w); armed = D .armed }
 told D (larger c d) =
     record { font = tagged (D .font) (at (D .font .program .tag) c 2) (at (D .font .program .remainder) c d) (D .font .program .recipes); armed = D .armed }
 told D (recipe c t m b r) = record { font = pieced (D .font) c (t * 16777216 + m * 65536 + b * 256 + r); armed = D .armed }

@@ -27,8 +27,8 @@ use Rattle.mend.specs.Holds.{lengthTable, tableNumber, junk, holdsOf, lowest, f
 use Rattle.mend.specs.Findings.{half, recordOf, found, foundAt, foundOn, foundTags, anyMend}
 use Rattle.header.specs.Header.{lettersFrom, spelled}
 use Rattle.building.specs.Pick.{rank, picked, least, bound}
-use Rattle.building.specs.Values.{place, insert, distinct, signedLess, joined, kernsFrom}
-use Rattle.font.specs.Checked.{wordByte, stepAt, hasLeft, programWords, wordAt, among, firstWords, wordsFor, namedIn, pieceNamed, piecesOf, namedBy, legitimates, insertsOver, anyOver, leadsOver, look, lookIf, lookedTo, looked as lookedAt}
+use Rattle.building.specs.Values.{place, insert, distinct, signedLess, kernJoined, kernsFrom}
+use Rattle.font.specs.Checked.{wordByte, stepAt, hasLeft, programWords, wordAt, among, firstWords, wordsFor, namedIn, pieceNamed, piecesOf, namedBy, legitimates, insertsOver, anyOver, leadsOver, checkCode, checkIf, checkedTo, checkedAll}
 use Rattle.font.specs.Told.{widened, at, legitimate}
 use Rattle.font.specs.Read.{flagged}
 use Rattle.building.specs.Written.{table, firstCode, lastCode, inFile, widthIndex, lengthIndex, starts, edge, movedFrom, moved, front, frontAddress, frontByte, stepByte, endAddress, endByte, programByte, newRemainder, infoByte, lettersByte, summand, summed, computedSum, headerByte, byteIn, sizesFor, tooMuch, sizeByte, partFor, written}
@@ -113,7 +113,7 @@ record Computed (f g : List ℕ) : Type 0 where
   filed : fileFor (listedOf f (layoutOf f)) ≡ accepts g
 
 computed : Computed file again × Computed apart parted × Computed parted less
-unfolding first iterate tabulate put1 puts run flat sizeAt layoutOf layoutNumber numberOf sizeList sizesAnswer countOf startOf tableOf subfileNumber subfileStart subfileOf byteOf infoOf inRange existsIn lookUp wordOf tooBig indexIn entryOf eyeOf lengthsOf lengthsFor eyeAnswer addressOf boundaryChar hasBoundary boundaryStart redirects redirected nextOf programOf storeIf markFirst markLast markLabel markInfo markStep marksFrom marksOf stringStart stringRoom isRead stringByte stringTooLong stringLength inString parenthesis nonstandard badDesignSize upper sameLetter schemeStarts mathSymbols mathExtension unusualCount badParameter notZero badBoundary badLabel badStart skipsTooFar looked badAddress isStep isLigature stepForMissing ligatureToMissing badKern oddCode reaches pieceMissing indexOf sizeOf badIndex linkMissing links larger endsCycle badRecipe lengthTable tableNumber junk holdsOf lowest firsts seconds half recordOf found foundAt foundOn foundTags anyMend rank picked least bound place insert distinct signedLess kernsFrom wordByte table firstCode lastCode inFile widthIndex lengthIndex hasLeft programWords starts edge movedFrom moved front frontAddress frontByte stepAt stepByte endAddress endByte programByte newRemainder infoByte lettersByte summand summed computedSum headerByte byteIn sizesFor tooMuch sizeByte partFor written past listedLength live listedStep listedHere listedWidth listedHeight listedDepth listedItalic startFor hasRecipe listedTag listedRemainder listedOf lettersFrom spelled skipped joined among firstWords wordsFor namedIn pieceNamed piecesOf namedBy legitimates insertsOver anyOver leadsOver look lookIf lookedTo lookedAt wordAt legitimate widened at flagged widthStated listedPlain fileFor
+unfolding first iterate tabulate put1 puts run flat sizeAt layoutOf layoutNumber numberOf sizeList sizesAnswer countOf startOf tableOf subfileNumber subfileStart subfileOf byteOf infoOf inRange existsIn lookUp wordOf tooBig indexIn entryOf eyeOf lengthsOf lengthsFor eyeAnswer addressOf boundaryChar hasBoundary boundaryStart redirects redirected nextOf programOf storeIf markFirst markLast markLabel markInfo markStep marksFrom marksOf stringStart stringRoom isRead stringByte stringTooLong stringLength inString parenthesis nonstandard badDesignSize upper sameLetter schemeStarts mathSymbols mathExtension unusualCount badParameter notZero badBoundary badLabel badStart skipsTooFar looked badAddress isStep isLigature stepForMissing ligatureToMissing badKern oddCode reaches pieceMissing indexOf sizeOf badIndex linkMissing links larger endsCycle badRecipe lengthTable tableNumber junk holdsOf lowest firsts seconds half recordOf found foundAt foundOn foundTags anyMend rank picked least bound place insert distinct signedLess kernsFrom wordByte table firstCode lastCode inFile widthIndex lengthIndex hasLeft programWords starts edge movedFrom moved front frontAddress frontByte stepAt stepByte endAddress endByte programByte newRemainder infoByte lettersByte summand summed computedSum headerByte byteIn sizesFor tooMuch sizeByte partFor written past listedLength live listedStep listedHere listedWidth listedHeight listedDepth listedItalic startFor hasRecipe listedTag listedRemainder listedOf lettersFrom spelled skipped kernJoined among firstWords wordsFor namedIn pieceNamed piecesOf namedBy legitimates insertsOver anyOver leadsOver checkCode checkIf checkedTo checkedAll wordAt legitimate widened at flagged widthStated listedPlain fileFor
 computed = (
   record { accepted = refl; unmended = refl; filed = refl },
   record { accepted = refl; unmended = refl; filed = refl },

@@ -20,7 +20,7 @@ use Rattle.building.proofs.Accepts.{Fits}
 use Rattle.building.proofs.Chars.{from-first, to-last, exists-back, width-word, width-within, height-back, height-within, depth-back, depth-within, italic-back, italic-within, tag-back, remainder-back, recipe-byte, parameter-back}
 use Rattle.font.specs.Read.{flagged}
 use Rattle.stated.specs.Listed.{listedHere, infoFor, hasRecipe, listedPlain, listedOf}
-use Rattle.promise.specs.Promise.{stated, lengthAt}
+use Rattle.promise.specs.Promise.{listedAt, lengthAt}
 use Rattle.stated.proofs.Live.{Clear}
 use Rattle.promise.proofs.Listing.{whole}
 use Rattle.promise.proofs.Tags.{table-small, word-byte-is, tag-listed, link-listed, number-listed, number-below, recipe-word}
@@ -57,8 +57,8 @@ module _ (f : List ℕ) (l : Layout) (c : Clear f l) (t : Fits (listedOf f l)) w
     bc-is = refl
 
     -- its lengths
-    pub same-lengths : (n : ℕ) → n < 4 → lengthAt g k n x ≡ stated f l n x
-    unfolding lengthAt stated indexOf listedOf flagged listedPlain sizesFor
+    pub same-lengths : (n : ℕ) → n < 4 → lengthAt g k n x ≡ listedAt f l n x
+    unfolding lengthAt listedAt indexOf listedOf flagged listedPlain sizesFor
     same-lengths zero h = width-word F (whole f l c) x here
     same-lengths (suc zero) h = height-back F (whole f l c) t x low high
     same-lengths (suc (suc zero)) h = depth-back F (whole f l c) t x low high

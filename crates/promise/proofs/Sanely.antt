@@ -17,13 +17,13 @@ use Rattle.tfm.specs.declared.Layout.{Layout}
 use Rattle.program.specs.Steps.{boundaryChar}
 use Rattle.faults.specs.Cycle.{reaches}
 use Rattle.faults.specs.Steps.{stepForMissing, isStep, looked}
-use Rattle.faults.specs.Characters.{pieceMissing, linkMissing, links, larger, endsCycle as oldCycle}
+use Rattle.faults.specs.Characters.{pieceMissing, linkMissing, links, larger, endsCycle}
 use Rattle.mend.specs.Findings.{anyMend}
 use Rattle.font.specs.Font.{Font, Instruction}
 use Rattle.font.specs.Checked.{wordByte, stepAt}
 use Rattle.font.specs.Read.{flagged}
 use Rattle.building.specs.Pick.{rank}
-use Rattle.building.specs.Repaired.{stays, stepStays, recipeStays, endsCycle, repaired}
+use Rattle.building.specs.Repaired.{stays, stepStays, recipeStays, closesCycle, repaired}
 use Rattle.building.specs.Sane.{Sane}
 use Rattle.building.proofs.Repairs.{nothing-repaired}
 use Rattle.clean.specs.Met.{marksIn}
@@ -146,8 +146,8 @@ module _ (f : List ℕ) (l : Layout) (c : Clear f l) (clean : anyMend f l ≡ fa
       let h = tag-here x (omega arith) in
       link-listed f l c x h (sym (tag-listed f l c x h) ∙ t)
 
-  no-cycle : (x : ℕ) → endsCycle F x ≡ false
-  unfolding endsCycle oldCycle
+  no-cycle : (x : ℕ) → closesCycle F x ≡ false
+  unfolding closesCycle endsCycle
   no-cycle x = rw (same-links x) (go (links (tableOf f l 1) l x) refl)
     where
       go : (b : Bool) → links (tableOf f l 1) l x ≡ b → b && reaches (λ g. eqb (F .program .tag g) 2) (F .program .remainder) x 256 (F .program .remainder x) ≡ false

@@ -30,8 +30,8 @@ abbrev pub LeftCode : List ℕ → Layout → ℕ → Type 0
 LeftCode f l x = (existsIn (tableOf f l 1) l x ≡ true) ⊎ (x ≡ 256)
 
 -- the length of a code that the listing states, in table t: 0 width, 1 height, 2 depth, 3 italic
-unfoldable pub stated : List ℕ → Layout → ℕ → ℕ → ℕ
-stated f l t c = getD (listedWidth (tableOf f l) l c ∷ listedHeight (tableOf f l) l c ∷ listedDepth (tableOf f l) l c ∷ listedItalic (tableOf f l) l c ∷ []) t 0
+unfoldable pub listedAt : List ℕ → Layout → ℕ → ℕ → ℕ
+listedAt f l t c = getD (listedWidth (tableOf f l) l c ∷ listedHeight (tableOf f l) l c ∷ listedDepth (tableOf f l) l c ∷ listedItalic (tableOf f l) l c ∷ []) t 0
 
 -- and the length that a file has for it
 unfoldable pub lengthAt : List ℕ → Layout → ℕ → ℕ → ℕ
@@ -44,7 +44,7 @@ pub record Kept (f : List ℕ) (l : Layout) (g : List ℕ) (k : Layout) : Type 0
   pub exists : (c : ℕ) → existsIn (tableOf g k 1) k c ≡ existsIn (tableOf f l 1) l c
   -- for each the lengths that the listing states, by indices that are in their tables
   pub indices : (t c : ℕ) → t < 4 → existsIn (tableOf f l 1) l c ≡ true → indexOf (infoFor (tableOf g k) k c) t < sizeOf k t
-  pub lengths : (t c : ℕ) → t < 4 → existsIn (tableOf f l 1) l c ≡ true → lengthAt g k t c ≡ stated f l t c
+  pub lengths : (t c : ℕ) → t < 4 → existsIn (tableOf f l 1) l c ≡ true → lengthAt g k t c ≡ listedAt f l t c
   -- the same links and recipes
   pub tags : (c : ℕ) → existsIn (tableOf f l 1) l c ≡ true → infoFor (tableOf g k) k c .tag ≡ infoFor (tableOf f l) l c .tag
   pub links : (c : ℕ) → existsIn (tableOf f l 1) l c ≡ true → infoFor (tableOf f l) l c .tag ≡ 2 → infoFor (tableOf g k) k c .remainder ≡ infoFor (tableOf f l) l c .remainder

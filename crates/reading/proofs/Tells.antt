@@ -16,7 +16,7 @@ use Rattle.forest.specs.Forest.{Forest, end, node, _⊕_, past, inName, nameAt,
 use Rattle.forest.specs.Plain.{wordBytes, headBytes, groupBytes, plain}
 use Rattle.forest.proofs.Quiet.{isQuiet, quiet, quietWords, calm, alphanumeric-high, Good, good-empty, good-leaf, good-group, good-both, good-choose, good-loop}
 use Rattle.reading.specs.Values.{took, codeIn, wordIn, realIn}
-use Rattle.reading.specs.Heads.{Statement, kern, ligature, Place, within, enters, allBlank, closed, leads, states, goes, small, entryIn, hasList, entryOf}
+use Rattle.reading.specs.Heads.{Statement, kern, ligature, Place, within, enters, allBlank, closed, leads, states, leadsOn, small, entryIn, hasList, entryOf}
 use Rattle.reading.specs.Read.{Reading, reading, tells, entered, enter, leaves, leave, walk}
 use Rattle.reading.proofs.Digits.{Stops, ends, at-blank, code-back, number-back, octal-number-back, word-back}
 use Rattle.reading.proofs.Reals.{Bounded, real-back}
@@ -266,9 +266,9 @@ module _ {A : Type 0} (tell : A → Statement → A) where
         (known p n (wordBytes (dec k ∷ [])) e (words-stop (dec k ∷ [])) ∙ i (wordBytes (dec k ∷ [])) ∙ rw (number-words low high k [] a b h) (none-left (within p) (say k ∷ []) true))
 
     -- a piece of a recipe, which leads on
-    pub tells-piece : (q : ℕ → Place) (letters : Bool) (c : ℕ) → ((s : List ℕ) → entryIn p n s ≡ goes (λ x. within (q x)) (codeIn 0 255 s))
+    pub tells-piece : (q : ℕ → Place) (letters : Bool) (c : ℕ) → ((s : List ℕ) → entryIn p n s ≡ leadsOn (λ x. within (q x)) (codeIn 0 255 s))
         → c < 256 → Tells p (leaf n (code letters c ∷ [])) [] (q c)
-    unfolding goes quietWords
+    unfolding leadsOn quietWords
     tells-piece q letters c i h =
         tells-leaf (name-calm n (code letters c ∷ []) e refl)
         (known p n (wordBytes (code letters c ∷ [])) e (words-stop (code letters c ∷ [])) ∙ i (wordBytes (code letters c ∷ [])) ∙ rw (code-words letters c [] h) (none-left (within (q c)) [] true))
@@ -332,9 +332,9 @@ module _ {A : Type 0} (tell : A → Statement → A) where
         let z : groupBytes n [] ≡ n ++ (32 ∷ []) = append-assoc n [] (32 ∷ []) in
         tells-group es us (name-calm n [] e refl) (rw z (known p n (32 ∷ []) e at-blank ∙ i (32 ∷ []) ∙ line-left q es true)) (rw z (not-comment n (32 ∷ []) e at-blank)) x y
 
-    pub tells-coded : {r v : Place} {t : Items} {ss : List Statement} (us : List Statement) (q : ℕ → Place) (letters : Bool) (c : ℕ) → ((s : List ℕ) → entryIn p n s ≡ goes q (codeIn 0 255 s))
+    pub tells-coded : {r v : Place} {t : Items} {ss : List Statement} (us : List Statement) (q : ℕ → Place) (letters : Bool) (c : ℕ) → ((s : List ℕ) → entryIn p n s ≡ leadsOn q (codeIn 0 255 s))
         → c < 256 → Tells (q c) t ss r → ((a : A) (ok : Bool) → leaves tell r a ok ≡ reading v (tells tell a us) ok) → Tells p (group n (code letters c ∷ []) t) (ss ++ us) v
-    unfolding quietWords goes
+    unfolding quietWords leadsOn
     tells-coded us q letters c i h x y =
         let z : groupBytes n (code letters c ∷ []) ≡ n ++ (wordBytes (code letters c ∷ []) ++ (32 ∷ [])) = append-assoc n (wordBytes (code letters c ∷ [])) (32 ∷ []) in
         let l = words-stop-line (code letters c ∷ []) in

@@ -72,9 +72,9 @@ states p say fits (took n also s) = closed (within p) (say n ∷ []) (fits && al
 states p say fits wrong = unknown
 
 -- a group, or a piece of a recipe: it leads elsewhere
-unfoldable pub goes : (ℕ → Place) → Took → Entry
-goes p (took n fits s) = closed (p n) [] fits s
-goes p wrong = unknown
+unfoldable pub leadsOn : (ℕ → Place) → Took → Entry
+leadsOn p (took n fits s) = closed (p n) [] fits s
+leadsOn p wrong = unknown
 
 -- a string
 unfoldable pub spells : (List ℕ → Statement) → List ℕ → Entry
@@ -107,7 +107,7 @@ atTop name s =
     (cond (same name (codes "BOUNDARYCHAR")) (states top boundary true (codeIn 0 255 s))
     (cond (same name (codes "FONTDIMEN")) (closed fontdimen [] true s)
     (cond (same name (codes "LIGTABLE")) (closed ligtable (begins ∷ []) true s)
-    (cond (same name (codes "CHARACTER")) (goes character (codeIn 0 255 s))
+    (cond (same name (codes "CHARACTER")) (leadsOn character (codeIn 0 255 s))
     unknown))))))))))
 
 -- §47: a table of names and their numbers; 0 is none
@@ -189,10 +189,10 @@ inCharacter c n s =
 
 unfoldable pub inVarchar : ℕ → ℕ → ℕ → ℕ → ℕ → List ℕ → List ℕ → Entry
 inVarchar c t m b r n s =
-    cond (same n (codes "TOP")) (goes (λ x. within (varchar c x m b r)) (codeIn 0 255 s))
-    (cond (same n (codes "MID")) (goes (λ x. within (varchar c t x b r)) (codeIn 0 255 s))
-    (cond (same n (codes "BOT")) (goes (λ x. within (varchar c t m x r)) (codeIn 0 255 s))
-    (cond (same n (codes "REP")) (goes (λ x. within (varchar c t m b x)) (codeIn 0 255 s))
+    cond (same n (codes "TOP")) (leadsOn (λ x. within (varchar c x m b r)) (codeIn 0 255 s))
+    (cond (same n (codes "MID")) (leadsOn (λ x. within (varchar c t x b r)) (codeIn 0 255 s))
+    (cond (same n (codes "BOT")) (leadsOn (λ x. within (varchar c t m x r)) (codeIn 0 255 s))
+    (cond (same n (codes "REP")) (leadsOn (λ x. within (varchar c t m b x)) (codeIn 0 255 s))
     unknown)))
 
 unfoldable pub entryIn : Place → List ℕ → List ℕ → Entry

@@ -4,7 +4,7 @@ use mathlib.Core.Bool.{Bool, true, false, cond}
 use mathlib.Core.List.{List, [], _∷_}
 use Rattle.forest.specs.Forest.{Mark, blank, line, left, right, other, markOf, onto, isComment}
 use Rattle.reading.specs.Heads.{Statement}
-use Rattle.reading.specs.Read.{Reading, Answer, refuses, enter, leave, judged}
+use Rattle.reading.specs.Read.{Reading, Response, refuses, enter, leave, concluded}
 
 -- how far a text is read: what was made, how many groups are open, and in a head also whether a line starts and its bytes, the last first
 pub data Going (A : Type 0) : Type 0 where
@@ -42,8 +42,8 @@ module _ {A : Type 0} (tell : A → Statement → A) where
   goes g [] = g
   goes g (b ∷ s) = goes (go g (markOf b) b) s
 
-  unfoldable pub ended : Going A → Answer A
-  ended (between r zero) = judged tell r
+  unfoldable pub ended : Going A → Response A
+  ended (between r zero) = concluded tell r
   ended (between r (suc d)) = refuses 19
   ended (heading r d starts h) = refuses 19
   ended (skipping r d n) = refuses 19

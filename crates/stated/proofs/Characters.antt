@@ -21,7 +21,7 @@ use Rattle.forest.proofs.Quiet.{isQuiet, quiet, quietWords, calm}
 use Rattle.forest.specs.Plain.{wordBytes}
 use Rattle.reading.proofs.Digits.{ends}
 use Rattle.reading.specs.Values.{codeIn, realIn}
-use Rattle.reading.specs.Heads.{Statement, width, height, depth, italic, larger, described, Place, top, character, varchar, within, small, states, goes, inCharacter, inVarchar, atTop, entryIn, widthAt}
+use Rattle.reading.specs.Heads.{Statement, width, height, depth, italic, larger, described, Place, top, character, varchar, within, small, states, leadsOn, inCharacter, inVarchar, atTop, entryIn, widthAt}
 use Rattle.reading.specs.Read.{tells, leaves}
 use Rattle.reading.proofs.Reals.{Bounded}
 use Rattle.reading.proofs.Tells.{inFull, isName, Tells, tells-none, tells-then, tells-choose, tells-either, tells-as, tells-leaf, known, tells-real-at, tells-real, tells-code, tells-piece, tells-list, tells-coded}
@@ -68,7 +68,7 @@ module _ {A : Type 0} (tell : A → Statement → A) where
         go true = h
         go false = code-low
 
-    optional : {p : Place} (n : List ℕ) → isName n ≡ true → (q : ℕ → Place) (x : ℕ) → ((s : List ℕ) → entryIn p n s ≡ goes (λ y. within (q y)) (codeIn 0 255 s)) → p ≡ q 0 → x < 256
+    optional : {p : Place} (n : List ℕ) → isName n ≡ true → (q : ℕ → Place) (x : ℕ) → ((s : List ℕ) → entryIn p n s ≡ leadsOn (λ y. within (q y)) (codeIn 0 255 s)) → p ≡ q 0 → x < 256
         → Tells tell p (optionalItem letters infos l c n x) [] (q (pieceStated infos l c x))
     unfolding optionalItem pieceItem pieceStated
     optional n e q x i z h =

@@ -17,7 +17,7 @@ use Rattle.font.specs.Font.{Font}
 use Rattle.reading.specs.Heads.{width, height, depth, italic, larger, described}
 use Rattle.reading.specs.Read.{tells}
 use Rattle.stated.specs.Stated.{inTurn, widthStated, lengthStated, lengthsStated, pieceStated, recipeStated, tagStated, characterStated}
-use Rattle.font.specs.Told.{widened, heightened, deepened, slanted, tagged, at, joined, pieced, legitimate, told}
+use Rattle.font.specs.Told.{widened, heightened, deepened, slanted, tagged, at, lengthJoined, pieced, legitimate, told}
 use Rattle.stated.proofs.ToldLoops.{in-turn, and-then}
 use Rattle.stated.proofs.ToldHeader.{draft}
 
@@ -35,28 +35,28 @@ join-is false z ws w = refl
 
 height-told : (F : Font) (a : Bool) (t : List ℕ) (c i : ℕ) → tells told (draft F a) (lengthStated (height c) t i)
     ≡ draft (heightened F (cond (isListed t i) (at (F .characters .height) c (wordOf t i)) (F .characters .height)) (cond (joins t i) (F .characters .heights ++ (wordOf t i ∷ [])) (F .characters .heights))) a
-unfolding tells told heightened lengthStated joined
+unfolding tells told heightened lengthStated lengthJoined
 height-told F a t c i = go (isListed t i) ∙ ap (λ ws. draft (heightened F (cond (isListed t i) (at (F .characters .height) c (wordOf t i)) (F .characters .height)) ws) a) (join-is (isListed t i) (eqb (wordOf t i) 0) (F .characters .heights) (wordOf t i))
   where
-    go : (b : Bool) → tells told (draft F a) (cond b (height c (wordOf t i) ∷ []) []) ≡ draft (heightened F (cond b (at (F .characters .height) c (wordOf t i)) (F .characters .height)) (cond b (joined (F .characters .heights) (wordOf t i)) (F .characters .heights))) a
+    go : (b : Bool) → tells told (draft F a) (cond b (height c (wordOf t i) ∷ []) []) ≡ draft (heightened F (cond b (at (F .characters .height) c (wordOf t i)) (F .characters .height)) (cond b (lengthJoined (F .characters .heights) (wordOf t i)) (F .characters .heights))) a
     go true = refl
     go false = refl
 
 depth-told : (F : Font) (a : Bool) (t : List ℕ) (c i : ℕ) → tells told (draft F a) (lengthStated (depth c) t i)
     ≡ draft (deepened F (cond (isListed t i) (at (F .characters .depth) c (wordOf t i)) (F .characters .depth)) (cond (joins t i) (F .characters .depths ++ (wordOf t i ∷ [])) (F .characters .depths))) a
-unfolding tells told deepened lengthStated joined
+unfolding tells told deepened lengthStated lengthJoined
 depth-told F a t c i = go (isListed t i) ∙ ap (λ ws. draft (deepened F (cond (isListed t i) (at (F .characters .depth) c (wordOf t i)) (F .characters .depth)) ws) a) (join-is (isListed t i) (eqb (wordOf t i) 0) (F .characters .depths) (wordOf t i))
   where
-    go : (b : Bool) → tells told (draft F a) (cond b (depth c (wordOf t i) ∷ []) []) ≡ draft (deepened F (cond b (at (F .characters .depth) c (wordOf t i)) (F .characters .depth)) (cond b (joined (F .characters .depths) (wordOf t i)) (F .characters .depths))) a
+    go : (b : Bool) → tells told (draft F a) (cond b (depth c (wordOf t i) ∷ []) []) ≡ draft (deepened F (cond b (at (F .characters .depth) c (wordOf t i)) (F .characters .depth)) (cond b (lengthJoined (F .characters .depths) (wordOf t i)) (F .characters .depths))) a
     go true = refl
     go false = refl
 
 italic-told : (F : Font) (a : Bool) (t : List ℕ) (c i : ℕ) → tells told (draft F a) (lengthStated (italic c) t i)
     ≡ draft (slanted F (cond (isListed t i) (at (F .characters .italic) c (wordOf t i)) (F .characters .italic)) (cond (joins t i) (F .characters .italics ++ (wordOf t i ∷ [])) (F .characters .italics))) a
-unfolding tells told slanted lengthStated joined
+unfolding tells told slanted lengthStated lengthJoined
 italic-told F a t c i = go (isListed t i) ∙ ap (λ ws. draft (slanted F (cond (isListed t i) (at (F .characters .italic) c (wordOf t i)) (F .characters .italic)) ws) a) (join-is (isListed t i) (eqb (wordOf t i) 0) (F .characters .italics) (wordOf t i))
   where
-    go : (b : Bool) → tells told (draft F a) (cond b (italic c (wordOf t i) ∷ []) []) ≡ draft (slanted F (cond b (at (F .characters .italic) c (wordOf t i)) (F .characters .italic)) (cond b (joined (F .characters .italics) (wordOf t i)) (F .characters .italics))) a
+    go : (b : Bool) → tells told (draft F a) (cond b (italic c (wordOf t i) ∷ []) []) ≡ draft (slanted F (cond b (at (F .characters .italic) c (wordOf t i)) (F .characters .italic)) (cond b (lengthJoined (F .characters .italics) (wordOf t i)) (F .characters .italics))) a
     go true = refl
     go false = refl
 

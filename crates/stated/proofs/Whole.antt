@@ -24,7 +24,7 @@ use Rattle.forest.specs.Plain.{wordBytes}
 use Rattle.forest.proofs.Quiet.{isQuiet, quiet, quietWords, calm, Good, good-empty, good-leaf, good-both}
 use Rattle.forest.proofs.Parsed.{parsed}
 use Rattle.reading.specs.Heads.{Statement, top, small, boundOf, hasList}
-use Rattle.reading.specs.Read.{accepts, tells, judged, readForest, read}
+use Rattle.reading.specs.Read.{accepts, tells, concluded, readForest, read}
 use Rattle.reading.proofs.Reals.{Bounded}
 use Rattle.reading.proofs.Tells.{Tells, tells-as, tells-none, tells-then, tells-either, tells-loop, tells-remark}
 use Rattle.stated.specs.Formats.{openingIn, closingIn, itemsIn}
@@ -95,5 +95,5 @@ module _ {A : Type 0} (tell : A → Statement → A) (c : List ℕ) (l : Layout)
 
 -- a text that tells is read
 pub told : {A : Type 0} (tell : A → Statement → A) (a : A) (t : Items) (ss : List Statement) → Tells tell top t ss top → read tell a (flat (render 0 t)) ≡ accepts (tells tell a ss)
-unfolding read readForest judged
+unfolding read readForest concluded
 told tell a t ss x = rw (parsed t (x .good), x .is a true)
