@@ -86,11 +86,27 @@ def short(text):
     return len(text) <= LONGEST and (number != 0 or len(more[0]) <= LARGEST)
 
 
+def copy_proved(tree):
+    """The crate building and those below it, with what rt has proved of them: it does not prove them again."""
+    lines = (ROOT / "crates.txt").read_text().splitlines()
+    below = next(line for line in lines if line.startswith("building:")).partition(":")[2].split()
+    for name in (*below, "building"):
+        for part in (f"crates/{name}", f"target/rlib/{name}.rlib"):
+            if (ROOT / part).exists():
+                shutil.copytree(ROOT / part, tree / part)
+        stamp = tree / "target" / "stamp" / name
+        stamp.parent.mkdir(exist_ok=True)
+        if (ROOT / "target" / "stamp" / name).exists():
+            shutil.copy2(ROOT / "target" / "stamp" / name, stamp)
+    wanted = [line for line in lines if line.partition(":")[0] in (*below, "building")]
+    (tree / "crates.txt").write_text("\n".join([*wanted, f"texts: {' '.join(below)} building"]) + "\n")
+
+
 def check(texts):
-    """Proves the theorems in a copy of the tree: what rt has proved there already it does not prove again."""
+    """Proves the theorems beside a copy of the crates that they speak of."""
     with tempfile.TemporaryDirectory() as folder:
-        tree = Path(folder) / "tree"
-        shutil.copytree(ROOT, tree, ignore=shutil.ignore_patterns(".git", "wrapper", "staticlib", "bin", "must-fail", "log"))
+        tree = Path(folder)
+        copy_proved(tree)
         crate = tree / "crates" / "texts"
         for part in ("src", "specs", "proofs"):
             (crate / part).mkdir(parents=True)
@@ -100,9 +116,6 @@ def check(texts):
         (crate / "proofs" / "Lib.antt").write_text("-- Texts\n" + "".join(f"pub mod Texts{at}\n" for at in range(len(parts))))
         for at, part in enumerate(parts):
             (crate / "proofs" / f"Texts{at}.antt").write_text(module_of(part))
-        line = next(line for line in (tree / "crates.txt").read_text().splitlines() if line.startswith("building:"))
-        with (tree / "crates.txt").open("a") as file:
-            file.write(f"texts: {line.partition(':')[2].strip()} building\n")
         done = subprocess.run(["rt", "check", "texts"], cwd=tree, capture_output=True, text=True)
         if done.returncode == 0:
             return
