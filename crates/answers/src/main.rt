@@ -2,6 +2,8 @@
 // many bytes the file has; what is asked, 0xFFFFFFFF for the listing, 0xFFFFFFFE for the verdict, or 65,536 times a left code and a right code for that
 // pair; and how many bytes of copy, bytes of findings, entries of the pair room and bytes of listing are lent. What is lent holds 170 all over. A line
 // has the answer and a check sum of each buffer that the operation is lent, afterwards; then the findings follow, and the listing.
+#![tactic(auto)]
+
 use judge::{Judgement, PairAnswer};
 use libc::{STDIN_FILENO, STDOUT_FILENO};
 use listing::ListAnswer;
@@ -45,7 +47,7 @@ fn print_sum(sum: u32) {
 }
 
 // How many bytes of findings and of listing there are.
-#[derive(Drop)]
+#[derive(Clone, Copy)]
 struct Lengths {
     findings: usize,
     text: usize,

@@ -13,7 +13,7 @@ use lib.Seq.{get_or-append-add}
 use borrow.Author.Tests.{lt-ltb, le-ltb, eq-eqb, ne_eqb, ltb-true}
 use Rattle.lent.specs.Fold.{iterate, tabulate}
 use Rattle.lent.proofs.Lists.{length_tabulate, get_or_tabulate}
-use Rattle.tfm.specs.Sizes.{size_list, words}
+use Rattle.tfm.specs.Sizes.{size_list}
 use Rattle.tfm.specs.Subfiles.{count_of}
 use Rattle.tfm.proofs.Bounds.{at_most}
 use Rattle.font.specs.Font.{Font}

@@ -43,6 +43,7 @@ reads_back {w} {vs} i d = at_its_place vs w d (in_place i)
 
 -- what is joined to a list, and what was in it, is in it
 pub in_front : {w : ℕ} (vs us : List ℕ) → In w vs → In w (vs ++ us)
+in_front {w = w} [] us x' = elim x' [ ]
 in_front (v ∷ vs) us (head e) = head e
 in_front (v ∷ vs) us (tail i) = tail (in_front vs us i)
 
@@ -77,6 +78,7 @@ module _ (before : ℕ → ℕ → Bool) where
 
   in_insert_old : (vs : List ℕ) (w u : ℕ) → In u vs → In u (insert before vs w)
   unfolding insert
+  in_insert_old [] w u i = elim i [ ]
   in_insert_old (v ∷ vs) w u i = go (in_insert_old vs w u) (eqb v w) (before w v) i
     where
       on : (In u vs → In u (insert before vs w)) → In u (v ∷ vs) → In u (v ∷ insert before vs w)
@@ -181,6 +183,7 @@ moved_most e (d ∷ ds) n = go (ltb (d + max n e) 256) (moved_most e ds (suc n))
 
 pub moved_or_near : (e : ℕ) {ds : List ℕ} (n r : ℕ) → Falls ds → In r ds → (n + place ds r < moved_from e ds n) ⊎ (r + max (moved_from e ds n) e < 256)
 unfolding moved_from place
+moved_or_near e n r none i = elim i [ ]
 moved_or_near e n r (more {d} {ds} h f) i = go (moved_or_near e (suc n) r f) (ltb (d + max n e) 256) refl i
   where
     last : In r (d ∷ ds) → r ≤ d

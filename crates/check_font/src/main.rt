@@ -1,4 +1,6 @@
 // Tells in words what is wrong with the TFM file on standard input: a line with the verdict and one for each finding, or REFUSED and the answer's number.
+#![tactic(auto)]
+
 use judge::Judgement;
 use libc::{STDIN_FILENO, STDOUT_FILENO};
 

@@ -1,4 +1,6 @@
 // The decimal of a stored word: the text that TFtoPL prints after "R " for a fix_word.
+#![tactic(auto)]
+
 ghost use Rattle.std.specs.Prelude.{◌≡◌, cond, [], ◌∷◌, ◌+◌, ◌*◌, ◌<◌, ◌≤◌};
 ghost use Rattle.ink.specs.Ink.{digits};
 ghost use Rattle.decimal.specs.Text as text;

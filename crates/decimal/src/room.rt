@@ -3,7 +3,7 @@ ghost use Rattle.std.specs.Prelude.{◌≡◌, ◌+◌, ◌%◌};
 ghost use Rattle.decimal.specs.Room.{pushed};
 
 // A text of at most 13 bytes: `len` of them, then zeros.
-#[derive(Drop)]
+#[derive(Clone, Copy)]
 pub struct Decimal {
     pub bytes: [u8; 13],
     pub len: usize,

@@ -1,4 +1,6 @@
 // Prints the decimal of each word on standard input, four bytes a word, high byte first, a line each; the first 16,384 of them.
+#![tactic(auto)]
+
 use libc::{STDIN_FILENO, STDOUT_FILENO};
 
 fn put_decimal(out: &mut [u8], to: usize, word: u32) -> usize {

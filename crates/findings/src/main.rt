@@ -1,5 +1,7 @@
 // Prints what is wrong with the TFM file on standard input: REFUSED and the number of the answer; or a line for each finding, its tag and its two
 // numbers, and then a line for each byte that the mended copy changes, with its place, the old byte and the new. (The loop, 18, is not looked for.)
+#![tactic(auto)]
+
 use libc::{STDIN_FILENO, STDOUT_FILENO};
 use tfm::Layout;
 

@@ -1,6 +1,8 @@
 // The pairs of a file's ligature program, put into the lent room in order of their keys and settled there: which is the
 // smallest that loops, and what one of them leaves. `infos` and `s` are the tables char_info and lig_kern of the mended
 // copy; entries, keys and states are those of `settle`.
+#![tactic(auto)]
+
 ghost use Rattle.std.specs.Prelude.{◌≡◌, ℕ, ◌<◌, ◌≤◌, length, get_or, set, replicate};
 ghost use Rattle.lent.specs.Write.{pen, byte, each, flat, Wrote};
 ghost use Rattle.gather.specs.Steps.{next, program_steps};
@@ -10,7 +12,7 @@ ghost use Rattle.gather.specs.Pairs.{packed_of, Noted, Walked, cell, row_in, row
 use tfm::Layout;
 
 // The smallest pair that loops, left and right code; too few entries in the room is number 14.
-#[derive(Drop)]
+#[derive(Clone, Copy)]
 pub enum Smallest {
     TooFew,
     Loop(u32, u32),
@@ -18,7 +20,7 @@ pub enum Smallest {
 }
 
 // What a pair leaves left of the cursor; a code out of range is number 17.
-#[derive(Drop)]
+#[derive(Clone, Copy)]
 pub enum PairOutcome {
     OutOfRange,
     TooFew,

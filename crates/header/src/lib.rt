@@ -1,4 +1,6 @@
 // The header and the parameters of a font, printed as 003 §48 to §61 do.
+#![tactic(auto)]
+
 pub mod parameters;
 
 ghost use Rattle.std.specs.Prelude.{◌≡◌, [], ◌∷◌, ◌+◌, ◌-◌, ◌<◌, ◌≤◌};
@@ -10,7 +12,7 @@ ghost use Rattle.header.specs.Header.{kind_of, letters_in, letter_of, spelled, s
 use tfm::Layout;
 
 // 003's font_type.
-#[derive(Drop)]
+#[derive(Clone, Copy)]
 pub enum Kind {
     Vanilla,
     MathSymbols,

@@ -1,4 +1,6 @@
 // Text into a lent buffer: bytes, line ends, numbers and character codes, as the listing prints them.
+#![tactic(auto)]
+
 ghost use Rattle.std.specs.Prelude.{◌≡◌, ◌<◌};
 ghost use Rattle.lent.specs.Write.{pen, byte, lit, ◌▹◌, each, codes, Wrote};
 ghost use Rattle.ink.specs.Ink.{indent, line, digits, turned, number, octal, between, alphanumeric, code};
@@ -38,7 +40,7 @@ pub fn put_line(out: &mut [u8], to: usize, level: usize) -> usize
 }
 
 // Digits, the last of the number first.
-#[derive(Drop)]
+#[derive(Clone, Copy)]
 struct Gathered {
     stored: [u8; 11],
     count: usize,

@@ -1,4 +1,6 @@
 // A property list's parts, printed: heads with their words, leaves, and what opens and closes a group.
+#![tactic(auto)]
+
 ghost use Rattle.std.specs.Prelude.{[], ◌∷◌};
 ghost use Rattle.lent.specs.Write.{pen, byte, lit, ◌▹◌, Wrote};
 ghost use Rattle.ink.specs.Ink.{line};

@@ -1,4 +1,6 @@
 // The inspection of a file on lent buffers: the verdict with the findings and the mended copy, and the outcome of one pair.
+#![tactic(auto)]
+
 ghost use Rattle.std.specs.Prelude.{◌≡◌, cond, length};
 ghost use Rattle.lent.specs.Write.{pen, Wrote};
 ghost use Rattle.tfm.specs.Sizes.{layout_of};
@@ -10,7 +12,7 @@ use gather::{PairOutcome, Smallest};
 use tfm::Layout;
 
 // The answer's number, or the verdict with the length of the findings in bytes.
-#[derive(Drop)]
+#[derive(Clone, Copy)]
 pub enum Judgement {
     Refused(u8),
     Clean(usize),
@@ -19,7 +21,7 @@ pub enum Judgement {
 }
 
 // The answer's number, the code left of the cursor once it has passed the right one, or that the pair's rewriting never ends.
-#[derive(Drop)]
+#[derive(Clone, Copy)]
 pub enum PairAnswer {
     NoOutcome(u8),
     Leaves(u32),
@@ -38,7 +40,7 @@ fn put_loop(out: &mut [u8], to: usize, smallest: Smallest) -> usize
 }
 
 // Where the findings end, and whether there is one but the remarks and the loop.
-#[derive(Drop)]
+#[derive(Clone, Copy)]
 struct Reported {
     end: usize,
     mends: bool,

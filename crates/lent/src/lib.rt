@@ -1,4 +1,6 @@
 // Lent slices, total: every read, part and store has an answer, and a writer marks for good what did not fit.
+#![tactic(auto)]
+
 ghost use Rattle.std.specs.Prelude.{◌≡◌, cond, ◌++◌, ◌-◌, min, length, get_or, take, drop, set, replicate};
 ghost use Rattle.lent.specs.Answer.{first};
 ghost use Rattle.lent.specs.Part.{PartOf};

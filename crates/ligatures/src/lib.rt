@@ -1,4 +1,6 @@
 // The ligature program of a font, printed as 003 §66 to §77 do, and the part that a character's comment shows (§83).
+#![tactic(auto)]
+
 mod labels;
 mod steps;
 

@@ -1,4 +1,6 @@
 // The list program: reads a TFM file on standard input, and writes its listing, or "REFUSED n" and a newline.
+#![tactic(auto)]
+
 use libc::{STDIN_FILENO, STDOUT_FILENO};
 use listing::ListAnswer;
 

@@ -1,4 +1,6 @@
 // The listing of a file: the property list of its mended copy, on lent buffers.
+#![tactic(auto)]
+
 mod characters;
 
 ghost use Rattle.std.specs.Prelude.{◌≡◌, cond, ltb};
@@ -14,7 +16,7 @@ use judge::Judgement;
 use tfm::Layout;
 
 // The answer's number, or the verdict with the lengths of the findings and of the listing in bytes.
-#[derive(Drop)]
+#[derive(Clone, Copy)]
 pub enum ListAnswer {
     Refused(u8),
     Clean(usize, usize),

@@ -2,6 +2,8 @@
 //   SIZES number, the twelve sizes
 //   SUBFILE k, number, bytes, the first and the last byte    for k from 0 to 10
 //   EYE code, number, the bits of width, height, depth and italic correction    for each code from 0 to 256 that is not missing
+#![tactic(auto)]
+
 use libc::{STDIN_FILENO, STDOUT_FILENO};
 
 const MARKED: [u32; 11] = [

@@ -1,4 +1,6 @@
 // The seven operations for a renderer in C, over lent buffers and numbers alone, and words for what they answer; include/nyelgomir.h declares them.
+#![tactic(auto)]
+
 ghost use Rattle.std.specs.Prelude.{◌≡◌, [], ◌∷◌, min, length};
 ghost use Rattle.lent.specs.Write.{pen, Wrote};
 ghost use Rattle.decimal.specs.Room.{filled};

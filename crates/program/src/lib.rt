@@ -1,4 +1,6 @@
 // The ligature program of a font: what a step says, where programs start, and which steps are reached.
+#![tactic(auto)]
+
 ghost use Rattle.std.specs.Prelude.{◌≡◌, ◌-◌};
 ghost use Rattle.lent.specs.Fold.{iterate};
 ghost use Rattle.tfm.specs.Sizes.{chars};

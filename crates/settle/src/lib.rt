@@ -2,6 +2,8 @@
 // finds in the room. An entry is key * 2048 + state * 256 + code, the key is 256 * left + right, and
 // the entries stand in order of their keys. States: 0 settled, to the code; 1, 2, 3 not yet: go on
 // with the code on the left, on the right, with both; 4 being settled; 5 never settles.
+#![tactic(auto)]
+
 ghost use Rattle.std.specs.Prelude.{length, ℕ, ◌<◌, List};
 ghost use Rattle.settle.specs.Settle.{step_of, Program, Settled, Judged, Told, Ended, EndedFirst};
 ghost use Rattle.settle.specs.Room.{Sorted, Found, Asked, Fresh, Looked, Marked, Stored, Turned, Visitable, Visited, Good};

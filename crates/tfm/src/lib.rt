@@ -1,4 +1,6 @@
 // A TFM file: its twelve sizes, its ten subfiles, its characters and their lengths.
+#![tactic(auto)]
+
 ghost use Rattle.std.specs.Prelude.{◌≡◌, ◌+◌, ◌-◌, ◌*◌, ◌/◌, ◌%◌, ◌≤◌};
 ghost use Rattle.std.proofs.Common.{to_z};
 ghost use Rattle.std.specs.Int.{w32};
@@ -9,7 +11,7 @@ ghost use Rattle.tfm.specs.Characters.{byte_of, info_of, untagged, in_range, exi
 ghost use Rattle.tfm.specs.Lengths.{word_of, too_big, index_in, entry_of, eye_of, lengths_of, no_lengths, eye_answer};
 
 // The twelve sizes, in file order.
-#[derive(Drop)]
+#[derive(Clone, Copy)]
 pub struct Layout {
     pub lf: u16,
     pub lh: u16,
@@ -159,7 +161,7 @@ pub fn number(file: &[u8], l: Layout, later: u8) -> u8
 }
 
 // The answer's number, and the twelve sizes in file order, all zero on refusal.
-#[derive(Drop)]
+#[derive(Clone, Copy)]
 pub struct TwelveSizes {
     pub number: u8,
     pub sizes: [u16; 12],
@@ -250,7 +252,7 @@ pub fn untag(b: u8) -> u8
 }
 
 // A char_info word: four indices, the tag and the remainder.
-#[derive(Drop)]
+#[derive(Clone, Copy)]
 pub struct CharInfo {
     pub width: u8,
     pub height: u8,
@@ -290,7 +292,7 @@ pub fn exists(infos: &[u8], l: Layout, code: u32) -> bool
 }
 
 // What stands in a file for a code.
-#[derive(Drop)]
+#[derive(Clone, Copy)]
 pub enum Lookup {
     Present(CharInfo),
     Missing,
@@ -325,7 +327,7 @@ pub fn too_big(t: &[u8], i: u32) -> bool
 }
 
 // The entry that the index i reads.
-fn index_in_lem(t: &[u8], i: u32) -> u32
+fn index_in(t: &[u8], i: u32) -> u32
     ensures { result ≡ index_in t.now i }
 {
     if (i as usize) < t.len() / 4 { i } else { 0 }
@@ -335,7 +337,7 @@ fn index_in_lem(t: &[u8], i: u32) -> u32
 fn entry(t: &[u8], i: u32) -> u32
     ensures { result ≡ entry_of t.now i }
 {
-    let at = index_in_lem(t, i);
+    let at = index_in(t, i);
     if too_big(t, at) { 0 } else { word_of(t, at) }
 }
 
@@ -357,7 +359,7 @@ fn eye_length(w: u32) -> f64
 }
 
 // The four lengths of a character, for the renderer.
-#[derive(Drop)]
+#[derive(Clone, Copy)]
 pub struct EyeLengths {
     pub width: f64,
     pub height: f64,
@@ -377,7 +379,7 @@ fn lengths(file: &[u8], l: Layout, info: CharInfo) -> EyeLengths
 }
 
 // The answer's number, and the four lengths, all zero on refusal.
-#[derive(Drop)]
+#[derive(Clone, Copy)]
 pub struct EyeAnswer {
     pub number: u8,
     pub lengths: EyeLengths,

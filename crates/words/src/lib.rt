@@ -1,4 +1,6 @@
 // Words for what is found: the sentence of each finding, of each answer's number, and of each verdict, into a lent buffer.
+#![tactic(auto)]
+
 ghost use Rattle.lent.specs.Write.{pen, Wrote};
 ghost use Rattle.words.specs.Lines.{line_of};
 ghost use Rattle.words.specs.Words.{string_name, table_name, piece_words, code_name, spelled, filled, finding_words, number_words, verdict_words};
