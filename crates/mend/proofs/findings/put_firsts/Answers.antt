@@ -1,0 +1,21 @@
+-- The turns of the loop are those of `each`.
+use Prim.Native.Nat.{◌-◌}
+use Rattle.lent.proofs.Ends.{keeps}
+use Rattle.lent.proofs.Writes.{no_turn, one_turn, all_turns}
+use borrow.Author.Rules.{rules}
+use Rattle.mend.proofs.findings.put_firsts.Goals as goal
+
+pub loop-i-init : goal.loop-i-init
+loop-i-init c = (no_turn, search rules)
+
+pub loop-i-preserved : goal.loop-i-preserved
+loop-i-preserved c = (
+  one_turn c.put_from-to.ensures c.loop-i.invariant.0,
+  search rules,
+)
+
+pub shape_of-out : goal.shape_of-out
+shape_of-out c = keeps c.loop-i.invariant.0
+
+pub returns : goal.returns
+returns c = all_turns c.loop-i.invariant.0 c.loop-i.invariant.1 c.loop-i-test.false
