@@ -1,0 +1,32 @@
+-- Each arm of the branch prints its arm of `choose`.
+use Rattle.items.proofs.Laws.{choices}
+use Rattle.header.specs.Parameters.{extension_item}
+use Rattle.header.proofs.parameters.put_extension.Goals as goal
+
+pub returns-in-8 : goal.returns-in-8
+unfolding extension_item
+returns-in-8 c = search choices depth 9
+
+pub returns-in-9 : goal.returns-in-9
+unfolding extension_item
+returns-in-9 c = search choices depth 9
+
+pub returns-in-10 : goal.returns-in-10
+unfolding extension_item
+returns-in-10 c = search choices depth 9
+
+pub returns-in-11 : goal.returns-in-11
+unfolding extension_item
+returns-in-11 c = search choices depth 9
+
+pub returns-in-12 : goal.returns-in-12
+unfolding extension_item
+returns-in-12 c = search choices depth 9
+
+pub returns-in-13 : goal.returns-in-13
+unfolding extension_item
+returns-in-13 c = search choices depth 9
+
+pub returns-in_default : goal.returns-in_default
+unfolding extension_item
+returns-in_default c = search choices depth 9

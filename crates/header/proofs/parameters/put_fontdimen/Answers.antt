@@ -1,0 +1,12 @@
+-- Each arm of the branch prints its arm of `choose`.
+use Rattle.items.proofs.Laws.{choices}
+use Rattle.header.specs.Parameters.{fontdimen}
+use Rattle.header.proofs.parameters.put_fontdimen.Goals as goal
+
+pub returns-then-n-eq0 : goal.returns-then-n-eq0
+unfolding fontdimen
+returns-then-n-eq0 c = search choices depth 9
+
+pub returns-else-n-eq0 : goal.returns-else-n-eq0
+unfolding fontdimen
+returns-else-n-eq0 c = search choices depth 9

@@ -1,0 +1,9 @@
+-- Its head, what is inside, and its end.
+use Rattle.items.proofs.Laws.{a_group}
+use Rattle.ligatures.specs.Ligatures.{program_comment}
+use Rattle.ligatures.proofs.put_comment.Goals as goal
+
+pub returns : goal.returns
+unfolding program_comment
+returns c =
+    a_group c.put_close.ensures c.put_program-to.ensures c.group_bare-to.ensures

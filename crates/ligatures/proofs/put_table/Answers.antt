@@ -1,0 +1,8 @@
+-- Its head, what is inside, and its end.
+use Rattle.items.proofs.Laws.{a_group}
+use Rattle.ligatures.proofs.put_table.Goals as goal
+
+pub returns : goal.returns
+returns c =
+    a_group c.put_close.ensures c.put_pieces-to.ensures
+    c.group_bare-to.ensures

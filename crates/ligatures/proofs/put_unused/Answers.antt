@@ -1,0 +1,9 @@
+-- Its head, what is inside, and its end.
+use Rattle.items.proofs.Laws.{a_group}
+use Rattle.ligatures.specs.Ligatures.{unused}
+use Rattle.ligatures.proofs.put_unused.Goals as goal
+
+pub returns : goal.returns
+unfolding unused
+returns c =
+    a_group c.put_close.ensures c.put_unused_steps-to.ensures c.group_bare-to.ensures
