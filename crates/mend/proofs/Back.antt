@@ -1,14 +1,13 @@
 -- The mended copy read back: it has the file's sizes, and each subfile is what the mends made. r is what follows the copy in a lent buffer.
 use Prim.Native.Nat.{ℕ, zero, suc, ◌+◌, ◌-◌, ◌*◌, ◌≤◌, ◌<◌}
-use native.Mathlib.Nat.{add-zero, add-suc, not-suc-le-zero}
 use native.Mathlib.Decide.{dec_lt}
 use native.Mathlib.Omega.{arith}
 use mathlib.Core.Path.{◌≡◌, refl, sym, ap, ◌∙◌}
 use mathlib.Core.Bool.{true}
 use mathlib.Core.List.{List, [], ◌∷◌, ◌++◌, append_assoc, append-nil}
 use lib.Dec.{ltb}
-use lib.ListN.{length, get_or, take, length-append, get_or-append, get_or-eq_default}
-use lib.Seq.{length-take-le, take_at, drop_at, get_or_at, get_or-take}
+use lib.ListN.{length, get_or, take, length-append, get_or-eq_default}
+use lib.Seq.{length-take-le, take_at, drop_at, get_or-take}
 use borrow.Author.Tests.{ltb-true}
 use Rattle.lent.specs.Fold.{iterate, tabulate}
 use Rattle.lent.specs.Write.{byte, each, flat}

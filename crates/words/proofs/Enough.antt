@@ -7,7 +7,7 @@ use mathlib.Core.List.{List, [], ◌∷◌, ◌++◌}
 use lib.Dec.{eqb, leb}
 use lib.ListN.{length, length-append, get_or}
 use borrow.Author.Tests.{leb-true}
-use Rattle.lent.specs.Write.{Text, byte, lit, flat, codes}
+use Rattle.lent.specs.Write.{Text, lit, flat, codes}
 use Rattle.ink.specs.Ink.{digits, number, octal}
 use Rattle.words.proofs.Lines.{both}
 use Rattle.words.specs.Words.{findings, numbers, verdicts, string_name, table_name, piece_words, code_name, spelled, filled, finding_words, number_words, verdict_words}

@@ -1,5 +1,4 @@
 -- `rest_part`, the loop of 003 §42: what is still to be printed, after what has been, is what was to be printed at first
-use Prim.Native.Nat.{◌-◌}
 use mathlib.Core.Path.{sym, ◌∙◌}
 use native.Mathlib.Omega.{arith}
 use Rattle.decimal.proofs.Filled.{last_turn, next_turn, no_turn}

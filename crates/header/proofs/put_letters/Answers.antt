@@ -1,5 +1,4 @@
 -- To write the letters that are left from here is to write them all from the start.
-use Prim.Native.Nat.{◌-◌}
 use mathlib.Core.Path.{refl}
 use borrow.Author.Rules.{rules}
 use Rattle.lent.specs.Write.{pen, run}

@@ -1,8 +1,6 @@
 -- The digits still to come, and then those gathered, are the number's.
-use Prim.Native.Nat.{◌-◌, ◌<◌, ◌%◌}
 use mathlib.Core.Path.{refl, ◌∙◌}
 use mathlib.Core.List.{append-nil}
-use native.Mathlib.Nat.{mod-lt, lt_of_lt_of_le}
 use native.Mathlib.Omega.{arith}
 use lib.ListN.{length-set}
 use borrow.Author.Rules.{rules}

@@ -1,5 +1,4 @@
 -- To write what is left of s from here is to write s from the start.
-use Prim.Native.Nat.{◌-◌}
 use mathlib.Core.Path.{refl}
 use borrow.Author.Rules.{rules}
 use Rattle.lent.specs.Write.{pen, run}

@@ -1,5 +1,5 @@
 -- To write what is left of s from here is to write s from the start.
-use Prim.Native.Nat.{◌-◌, ◌≤◌}
+use Prim.Native.Nat.{◌≤◌}
 use mathlib.Core.Path.{◌≡◌}
 use lib.ListN.{length, drop}
 use Rattle.lent.specs.Write.{pen, puts}

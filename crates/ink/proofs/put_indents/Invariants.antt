@@ -1,5 +1,5 @@
 -- The turns of the loop are those of `each`.
-use Prim.Native.Nat.{◌≤◌, ◌-◌}
+use Prim.Native.Nat.{◌≤◌}
 use Rattle.lent.specs.Write.{Wrote, pen, each}
 use Rattle.ink.specs.Ink.{indent}
 use Rattle.ink.proofs.put_indents.Given as goal

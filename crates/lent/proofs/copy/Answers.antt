@@ -1,5 +1,4 @@
 -- After i turns the first i bytes are copied, and the rest is as it was.
-use Prim.Native.Nat.{◌-◌}
 use mathlib.Core.Path.{refl}
 use native.Mathlib.Omega.{arith}
 use lib.ListN.{length-set}

@@ -1,5 +1,4 @@
 -- Each turn prints one piece of what is left.
-use Prim.Native.Nat.{◌-◌}
 use native.Mathlib.Omega.{arith}
 use borrow.Author.Rules.{rules}
 use Rattle.items.proofs.Jumps.{rest_all, rest_more, rest_none}

@@ -1,5 +1,4 @@
 -- Each turn prints one step of what is left, unless the text no longer fits.
-use Prim.Native.Nat.{◌-◌}
 use native.Mathlib.Omega.{arith}
 use borrow.Author.Rules.{rules}
 use Rattle.items.proofs.Jumps.{rest_all, rest_more, rest_none, rest_stuck}
@@ -17,11 +16,10 @@ loop-i-smaller c =
     omega (arith, forwards _ _ _ c.loop-i-test.true c.following-i.ensures, c.loop-i-test.true)
 
 pub loop-i-preserved : goal.loop-i-preserved
-loop-i-preserved c =
-    (
-      rest_more _ _ _ _ _ _ c.loop-i.invariant.0 c.loop-i-test.true c.following-i.ensures (forwards _ _ _ c.loop-i-test.true c.following-i.ensures) c.put_step-to.ensures,
-      search rules,
-    )
+loop-i-preserved c = (
+  rest_more _ _ _ _ _ _ c.loop-i.invariant.0 c.loop-i-test.true c.following-i.ensures (forwards _ _ _ c.loop-i-test.true c.following-i.ensures) c.put_step-to.ensures,
+  search rules,
+)
 
 pub shape_of-out : goal.shape_of-out
 shape_of-out c = c.loop-i.invariant.1

@@ -1,5 +1,4 @@
 -- The run from here on ends where the run from the start does.
-use Prim.Native.Nat.{◌-◌}
 use mathlib.Core.Path.{refl, sym, ◌∙◌}
 use Rattle.ligatures.proofs.Ways.{run_more, run_stop, run_over}
 use Rattle.ligatures.proofs.run_end.Goals as goal

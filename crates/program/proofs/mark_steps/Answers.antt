@@ -1,10 +1,8 @@
 -- The turns of the loop are those of `iterate`.
-use Prim.Native.Nat.{◌-◌}
 use mathlib.Core.Path.{◌≡◌, ◌∙◌}
 use native.Mathlib.Omega.{arith}
 use Rattle.lent.specs.Fold.{iterate}
 use Rattle.lent.proofs.Lists.{iterate_more}
-use Rattle.program.specs.Marks.{mark_step}
 use borrow.Author.Rules.{rules}
 use Rattle.program.proofs.mark_steps.Goals as goal
 

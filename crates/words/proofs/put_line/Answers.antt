@@ -1,5 +1,4 @@
 -- To write what is left of the line from here is to write it from the start.
-use Prim.Native.Nat.{◌-◌}
 use mathlib.Core.Path.{refl, sym, ◌∙◌}
 use borrow.Author.Rules.{rules}
 use Rattle.lent.proofs.Ends.{keeps}
@@ -20,19 +19,19 @@ loop-i-preserved c =
     elim c.if-text-i-ne10.branch [
       | then-text-i-ne10+then-left-eq0 w ↦ (
         rw (w.out-is, w.left-is, w.to-is)
-        (in_line _ _ _ _ _ _ inside w.if-text-i-ne10.true w.if-left-eq0.true w.put_spelled-to.ensures c.loop-i.invariant.0),
+            (in_line _ _ _ _ _ _ inside w.if-text-i-ne10.true w.if-left-eq0.true w.put_spelled-to.ensures c.loop-i.invariant.0),
         rw w.out-is (keeps w.put_spelled-to.ensures ∙ c.loop-i.invariant.1),
         search rules,
       )
       | then-text-i-ne10+else-left-eq0 w ↦ (
         rw (w.out-is, w.left-is, w.to-is, ← before_line _ _ _ inside w.if-text-i-ne10.true w.if-left-eq0.false)
-        c.loop-i.invariant.0,
+            c.loop-i.invariant.0,
         rw w.out-is c.loop-i.invariant.1,
         search rules,
       )
       | else-text-i-ne10+else-left-eq0-2 w ↦ (
         rw (w.out-is, w.left-is, w.to-is, ← line_past _ _ _ inside w.if-text-i-ne10.false w.if-left-eq0-2.false)
-        c.loop-i.invariant.0,
+            c.loop-i.invariant.0,
         rw w.out-is c.loop-i.invariant.1,
         search rules,
       )

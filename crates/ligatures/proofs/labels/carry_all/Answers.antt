@@ -1,11 +1,9 @@
 -- The turns of the loop are those of `iterate`.
-use Prim.Native.Nat.{◌-◌}
 use mathlib.Core.Path.{◌≡◌, ◌∙◌}
 use native.Mathlib.Omega.{arith}
 use borrow.Author.Rules.{rules}
 use Rattle.lent.specs.Fold.{iterate}
 use Rattle.lent.proofs.Lists.{iterate_more}
-use Rattle.ligatures.specs.Labels.{carry}
 use Rattle.ligatures.proofs.labels.carry_all.Goals as goal
 
 pub loop-c-init : goal.loop-c-init

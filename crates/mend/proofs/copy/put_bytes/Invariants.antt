@@ -1,5 +1,5 @@
 -- The turns of the loop are those of `each`.
-use Prim.Native.Nat.{◌≤◌, ◌-◌}
+use Prim.Native.Nat.{◌≤◌}
 use Rattle.lent.specs.Write.{Wrote, pen, each}
 use Rattle.mend.specs.Copy.{mended_byte}
 use Rattle.mend.proofs.copy.put_bytes.Given as goal

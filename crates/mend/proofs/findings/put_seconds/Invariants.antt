@@ -1,5 +1,5 @@
 -- The turns of the loop are those of `each`.
-use Prim.Native.Nat.{◌≤◌, ◌-◌}
+use Prim.Native.Nat.{◌≤◌}
 use Rattle.lent.specs.Write.{Wrote, pen, each}
 use Rattle.mend.specs.Findings.{found}
 use Rattle.mend.proofs.findings.put_seconds.Given as goal
