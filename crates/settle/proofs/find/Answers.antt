@@ -1,5 +1,4 @@
 -- The bracket of a search by halves narrows to the key, if the room is in order.
-use Prim.Native.Nat.{◌-◌}
 use native.Mathlib.Omega.{arith}
 use Rattle.settle.proofs.Halves.{all, up, down, met}
 use Rattle.settle.proofs.find.Goals as goal
@@ -7,32 +6,11 @@ use Rattle.settle.proofs.find.Goals as goal
 pub loop-lo-init : goal.loop-lo-init
 loop-lo-init c = (omega arith, omega arith, λ s. all c.args.room.now c.args.key)
 
-pub overflow_sub-mid : goal.overflow_sub-mid
-overflow_sub-mid c = omega arith
-
-pub overflow_add-mid : goal.overflow_add-mid
-overflow_add-mid c = omega arith
-
-pub offset_bounds-room-mid : goal.offset_bounds-room-mid
-offset_bounds-room-mid c = omega arith
-
-pub bounds-room-mid : goal.bounds-room-mid
-bounds-room-mid c = omega arith
-
 pub returns-then-at-key : goal.returns-then-at-key
 returns-then-at-key c = λ s. record { here = λ _. c.if-at-key.true; nowhere = λ h. absurd (omega arith) }
 
-pub overflow_add-lo : goal.overflow_add-lo
-overflow_add-lo c = omega arith
-
-pub loop-lo-smaller-then-at-key-2 : goal.loop-lo-smaller-then-at-key-2
-loop-lo-smaller-then-at-key-2 c = omega arith
-
 pub loop-lo-preserved-then-at-key-2 : goal.loop-lo-preserved-then-at-key-2
 loop-lo-preserved-then-at-key-2 c = let l = c.loop-lo in (omega arith, omega arith, λ s. up s (l.invariant.2 s) _ (omega arith) (omega arith) c.if-at-key-2.true)
-
-pub loop-lo-smaller : goal.loop-lo-smaller
-loop-lo-smaller c = omega arith
 
 pub loop-lo-preserved : goal.loop-lo-preserved
 loop-lo-preserved c = let l = c.loop-lo in (omega arith, omega arith, λ s. down s (l.invariant.2 s) _ (omega arith) (omega arith) (omega arith))

@@ -11,4 +11,4 @@ pub slice_bounds-settle_all-end-2 : goal.slice_bounds-settle_all-end-2
 slice_bounds-settle_all-end-2 c = sym (length-take-le c.args.n c.args.room.now c.if-room-n.false)
 
 pub returns : goal.returns
-returns c = let e = c.settle_all in first_ended c.args.room.now e.new.0 c.args.n e.result c.if-room-n.false e.auto.0 e.ensures
+returns c = let e = c.settle_all in first_ended c.args.room.now e.new.room c.args.n e.result c.if-room-n.false e.auto.room e.ensures

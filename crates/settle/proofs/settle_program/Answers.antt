@@ -1,5 +1,4 @@
 -- Every entry below k has its outcome, and no pair is being settled.
-use Prim.Native.Nat.{◌-◌}
 use mathlib.Core.Path.{sym}
 use native.Mathlib.Omega.{arith}
 use Rattle.settle.proofs.Whole.{done_start, done_more, done_end}
@@ -10,9 +9,6 @@ loop-k-init c = done_start c.args.room.now c.requires
 
 pub visit-requires : goal.visit-requires
 visit-requires c = record { sorted = c.loop-k.invariant.sorted; here = c.loop-k-test.true; quiet = c.loop-k.invariant.quiet }
-
-pub overflow_add-k : goal.overflow_add-k
-overflow_add-k c = omega arith
 
 pub loop-k-smaller : goal.loop-k-smaller
 loop-k-smaller c = omega (arith, c.loop-k.invariant.right.long, c.loop-k-test.true)
