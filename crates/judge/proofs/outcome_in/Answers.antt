@@ -1,0 +1,13 @@
+-- The tables of the copy.
+use Rattle.judge.specs.Judge.{program_in}
+use Rattle.judge.proofs.outcome_in.Goals as goal
+
+pub returns : goal.returns
+unfolding program_in
+returns c = (
+  rw (
+    ← c.table.ensures.holds,
+    ← c.table-2.ensures.holds,
+  ) c.pair_outcome.ensures.0,
+  c.pair_outcome.ensures.1,
+)
