@@ -8,20 +8,20 @@ returns-then-too_few c =
     λ e. rw (
       c.wipe.ensures,
       c.wipe-then-too_few.ensures,
-      c.smallest_in-smallest.ensures.1,
-    ) (few_case c.args.file.now c.args.l c.args.copy.now c.args.findings.now c.args.pairs.now e _ (rw c.marks_of-m.ensures at c.mend_into.ensures) c.smallest_in-smallest.result c.smallest_in-smallest.ensures.0 (sym c.too_few.ensures ∙ c.if-too_few.true))
+      c.smallest_in-smallest.ensures.pairs_after,
+    ) (few_case c.args.file.now c.args.l c.args.copy.now c.args.findings.now c.args.pairs.now e _ (rw c.marks_of-m.ensures at c.mend_into.ensures) c.smallest_in-smallest.result c.smallest_in-smallest.ensures.smallest_as (sym c.too_few.ensures ∙ c.if-too_few.true))
 
 pub returns-then-findings-end : goal.returns-then-findings-end
 returns-then-findings-end c =
     λ e. rw (
       c.wipe-then-findings-end.ensures,
       c.wipe-then-findings-end-2.ensures,
-      c.smallest_in-smallest.ensures.1,
-    ) (long_case c.args.file.now c.args.l c.args.copy.now c.args.findings.now c.args.pairs.now e _ (rw c.marks_of-m.ensures at c.mend_into.ensures) c.smallest_in-smallest.result c.smallest_in-smallest.ensures.0 (sym c.too_few.ensures ∙ c.if-too_few.false) _ c.report-reported.result (rw c.marks_of-m.ensures at c.report-reported.ensures) c.if-findings-end.true)
+      c.smallest_in-smallest.ensures.pairs_after,
+    ) (long_case c.args.file.now c.args.l c.args.copy.now c.args.findings.now c.args.pairs.now e _ (rw c.marks_of-m.ensures at c.mend_into.ensures) c.smallest_in-smallest.result c.smallest_in-smallest.ensures.smallest_as (sym c.too_few.ensures ∙ c.if-too_few.false) _ c.report-reported.result (rw c.marks_of-m.ensures at c.report-reported.ensures) c.if-findings-end.true)
 
 pub returns : goal.returns
 returns c =
     λ e. rw (
       c.verdict_on.ensures,
-      c.smallest_in-smallest.ensures.1,
-    ) (done_case c.args.file.now c.args.l c.args.copy.now c.args.findings.now c.args.pairs.now e _ (rw c.marks_of-m.ensures at c.mend_into.ensures) c.smallest_in-smallest.result c.smallest_in-smallest.ensures.0 (sym c.too_few.ensures ∙ c.if-too_few.false) _ c.report-reported.result (rw c.marks_of-m.ensures at c.report-reported.ensures) c.if-findings-end.false)
+      c.smallest_in-smallest.ensures.pairs_after,
+    ) (done_case c.args.file.now c.args.l c.args.copy.now c.args.findings.now c.args.pairs.now e _ (rw c.marks_of-m.ensures at c.mend_into.ensures) c.smallest_in-smallest.result c.smallest_in-smallest.ensures.smallest_as (sym c.too_few.ensures ∙ c.if-too_few.false) _ c.report-reported.result (rw c.marks_of-m.ensures at c.report-reported.ensures) c.if-findings-end.false)

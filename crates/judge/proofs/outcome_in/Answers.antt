@@ -4,10 +4,8 @@ use Rattle.judge.proofs.outcome_in.Goals as goal
 
 pub returns : goal.returns
 unfolding program_in
-returns c = (
-  rw (
-    ← c.table.ensures.holds,
-    ← c.table-2.ensures.holds,
-  ) c.pair_outcome.ensures.0,
-  c.pair_outcome.ensures.1,
-)
+returns c =
+    record {
+      pair_as = rw (← c.table.ensures.holds, ← c.table-2.ensures.holds) c.pair_outcome.ensures.pair_as;
+      pairs_after = c.pair_outcome.ensures.room_after;
+    }
