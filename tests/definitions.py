@@ -2,7 +2,7 @@
 """The definition `build` (crates/building/specs/Build.antt) computed by the prover, on texts, beside the reading of tests/pltotf.py: the answer's
 number, and every byte of the file that is built.
 
-tests/definitions.py            the listings of the samples, some texts of its own and odd texts, in a copy of this tree whose crates are proved
+tests/definitions.py            the listings of the samples, some texts of its own and odd texts, in a tree of its own
 tests/definitions.py N [SEED]   the same with N odd texts
 """
 import re
@@ -65,16 +65,16 @@ def answered(text):
 
 def module_of(texts):
     """A module with a theorem for each text, that the definition gives what the reading says; the proof is that the prover computes it."""
-    uses = [f"use Rattle·{c}.specs.{m} as {c.title()}{m}" for c, modules in COMPUTED.items() for m in modules]
+    uses = [f"use Rattle.{c}.specs.{m} as {c.title()}{m}" for c, modules in COMPUTED.items() for m in modules]
     names = [f"{c.title()}{m}.{name}" for c, modules in COMPUTED.items() for m in modules for name in unfoldable(c, m)]
     lines = [
         "-- Texts, and what is built of them.",
         "use Prim.Native.Nat.{ℕ}",
-        "use mathlib.Core.Path.{_≡_, refl}",
-        "use mathlib.Core.List.{List, [], _∷_}",
+        "use mathlib.Core.Path.{◌≡◌, refl}",
+        "use mathlib.Core.List.{List, [], ◌∷◌}",
         *uses,
-        "use Rattle·reading.specs.Read.{accepts, refuses}",
-        "use Rattle·building.specs.Build.{build}",
+        "use Rattle.reading.specs.Read.{accepts, refuses}",
+        "use Rattle.building.specs.Build.{build}",
     ]
     for at, text in enumerate(texts):
         lines += ["", f"text-{at} : build ({listed(text)}) ≡ {answered(text)}", f"unfolding {' '.join(names)}", f"text-{at} = refl"]
@@ -86,18 +86,14 @@ def short(text):
     return len(text) <= LONGEST and (number != 0 or len(more[0]) <= LARGEST)
 
 
-def copy_proved(tree):
-    """The crate building and those below it, with what rt has proved of them: it does not prove them again."""
+def copy_crates(tree):
+    """The crate building and those below it. What `rt ci` has proved of them on this machine it does not prove again."""
     lines = (ROOT / "crates.txt").read_text().splitlines()
     below = next(line for line in lines if line.startswith("building:")).partition(":")[2].split()
     for name in (*below, "building"):
-        for part in (f"crates/{name}", f"target/rlib/{name}.rlib"):
-            if (ROOT / part).exists():
-                shutil.copytree(ROOT / part, tree / part)
-        stamp = tree / "target" / "stamp" / name
-        stamp.parent.mkdir(exist_ok=True)
-        if (ROOT / "target" / "stamp" / name).exists():
-            shutil.copy2(ROOT / "target" / "stamp" / name, stamp)
+        for part in ("src", "specs", "proofs"):
+            if (ROOT / "crates" / name / part).exists():
+                shutil.copytree(ROOT / "crates" / name / part, tree / "crates" / name / part)
     wanted = [line for line in lines if line.partition(":")[0] in (*below, "building")]
     (tree / "crates.txt").write_text("\n".join([*wanted, f"texts: {' '.join(below)} building"]) + "\n")
 
@@ -106,17 +102,18 @@ def check(texts):
     """Proves the theorems beside a copy of the crates that they speak of."""
     with tempfile.TemporaryDirectory() as folder:
         tree = Path(folder)
-        copy_proved(tree)
+        copy_crates(tree)
         crate = tree / "crates" / "texts"
         for part in ("src", "specs", "proofs"):
             (crate / part).mkdir(parents=True)
-        (crate / "src" / "lib.rt").write_text("// Texts, and what is built of them.\n")
+        (crate / "src" / "lib.rt").write_text("// Texts, and what is built of them.\n#![tactic(auto)]\n")
         (crate / "specs" / "Lib.antt").write_text("-- Texts\n")
         parts = [texts[at : at + EACH] for at in range(0, len(texts), EACH)]
         (crate / "proofs" / "Lib.antt").write_text("-- Texts\n" + "".join(f"pub mod Texts{at}\n" for at in range(len(parts))))
         for at, part in enumerate(parts):
             (crate / "proofs" / f"Texts{at}.antt").write_text(module_of(part))
-        done = subprocess.run(["rt", "check", "texts"], cwd=tree, capture_output=True, text=True)
+        subprocess.run(["rt", "fmt"], cwd=crate, stdout=subprocess.DEVNULL, check=True)
+        done = subprocess.run(["rt", "ci"], cwd=tree, capture_output=True, text=True)
         if done.returncode == 0:
             return
         wrong = re.findall(r"Texts(\d+)\.antt:\d+:\d+: error: `text-(\d+)`", done.stdout + done.stderr)

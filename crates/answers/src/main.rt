@@ -5,17 +5,16 @@
 #![tactic(auto)]
 
 use judge::{Judgement, PairAnswer};
-use libc::{STDIN_FILENO, STDOUT_FILENO};
 use listing::ListAnswer;
+use std::io;
+use std::io::Read;
 
-fn print(text: &[u8]) {
-    io::write_all(STDOUT_FILENO, text);
+fn print(rt: &impl Print, text: &[u8]) -> io::Result<()> {
+    rt.write_all(text)
 }
 
-fn print_named(name: &[u8], n: u64) {
-    print(name);
-    print(b" ");
-    io::print_decimal(STDOUT_FILENO, n);
+fn print_named(rt: &impl Print, name: &str, n: u64) -> io::Result<()> {
+    print!(rt; "{name} {n}")
 }
 
 // 31 times the sum so far and the next value, modulo 2^32.
@@ -41,9 +40,8 @@ fn sum_of_numbers(s: &[u32]) -> u32 {
     sum
 }
 
-fn print_sum(sum: u32) {
-    print(b" ");
-    io::print_hex(STDOUT_FILENO, sum as u64, 8);
+fn print_sum(rt: &impl Print, sum: u32) -> io::Result<()> {
+    print!(rt; " {sum:08x}")
 }
 
 // How many bytes of findings and of listing there are.
@@ -53,93 +51,118 @@ struct Lengths {
     text: usize,
 }
 
-fn print_refusal(number: u8) -> Lengths {
-    print_named(b"REFUSED", number as u64);
-    Lengths {
+fn print_refusal(rt: &impl Print, number: u8) -> io::Result<Lengths> {
+    print_named(rt, "REFUSED", number as u64)?;
+    Ok(Lengths {
         findings: 0,
         text: 0,
-    }
+    })
 }
 
-fn print_verdict(verdict: &[u8], findings: usize) -> Lengths {
-    print_named(verdict, findings as u64);
-    Lengths { findings, text: 0 }
+fn print_verdict(rt: &impl Print, verdict: &str, findings: usize) -> io::Result<Lengths> {
+    print_named(rt, verdict, findings as u64)?;
+    Ok(Lengths { findings, text: 0 })
 }
 
-fn print_listed(verdict: &[u8], findings: usize, text: usize) -> Lengths {
-    print_named(verdict, findings as u64);
-    print_named(b"", text as u64);
-    Lengths { findings, text }
+fn print_listed(
+    rt: &impl Print,
+    verdict: &str,
+    findings: usize,
+    text: usize,
+) -> io::Result<Lengths> {
+    print_named(rt, verdict, findings as u64)?;
+    print_named(rt, "", text as u64)?;
+    Ok(Lengths { findings, text })
 }
 
-fn print_judgement(judgement: Judgement) -> Lengths {
+fn print_judgement(rt: &impl Print, judgement: Judgement) -> io::Result<Lengths> {
     match judgement {
-        Judgement::Refused(number) => print_refusal(number),
-        Judgement::Clean(n) => print_verdict(b"CLEAN", n),
-        Judgement::Mended(n) => print_verdict(b"MENDED", n),
-        Judgement::Looping(n) => print_verdict(b"LOOPING", n),
+        Judgement::Refused(number) => print_refusal(rt, number),
+        Judgement::Clean(n) => print_verdict(rt, "CLEAN", n),
+        Judgement::Mended(n) => print_verdict(rt, "MENDED", n),
+        Judgement::Looping(n) => print_verdict(rt, "LOOPING", n),
     }
 }
 
-fn print_list_answer(answer: ListAnswer) -> Lengths {
+fn print_list_answer(rt: &impl Print, answer: ListAnswer) -> io::Result<Lengths> {
     match answer {
-        ListAnswer::Refused(number) => print_refusal(number),
-        ListAnswer::Clean(n, text) => print_listed(b"CLEAN", n, text),
-        ListAnswer::Mended(n, text) => print_listed(b"MENDED", n, text),
-        ListAnswer::Looping(n, text) => print_listed(b"LOOPING", n, text),
+        ListAnswer::Refused(number) => print_refusal(rt, number),
+        ListAnswer::Clean(n, text) => print_listed(rt, "CLEAN", n, text),
+        ListAnswer::Mended(n, text) => print_listed(rt, "MENDED", n, text),
+        ListAnswer::Looping(n, text) => print_listed(rt, "LOOPING", n, text),
     }
 }
 
-fn print_pair_answer(answer: PairAnswer) {
+fn print_pair_answer(rt: &impl Print, answer: PairAnswer) -> io::Result<()> {
     match answer {
-        PairAnswer::NoOutcome(number) => print_named(b"NO OUTCOME", number as u64),
-        PairAnswer::Leaves(code) => print_named(b"LEAVES", code as u64),
-        PairAnswer::Loops => print(b"LOOPS"),
+        PairAnswer::NoOutcome(number) => print_named(rt, "NO OUTCOME", number as u64),
+        PairAnswer::Leaves(code) => print_named(rt, "LEAVES", code as u64),
+        PairAnswer::Loops => print(rt, b"LOOPS"),
     }
 }
 
-fn judge_on(file: &[u8], copy: &mut [u8], findings: &mut [u8], pairs: &mut [u32]) {
+fn judge_on(
+    rt: &impl Print,
+    file: &[u8],
+    copy: &mut [u8],
+    findings: &mut [u8],
+    pairs: &mut [u32],
+) -> io::Result<()> {
     let judgement = judge::verdict(file, copy, findings, pairs);
-    let lengths = print_judgement(judgement);
-    print_sum(sum_of_bytes(copy));
-    print_sum(sum_of_bytes(findings));
-    print_sum(sum_of_numbers(pairs));
-    print(b"\n");
-    print(lent::part(findings, 0, lengths.findings));
+    let lengths = print_judgement(rt, judgement)?;
+    print_sum(rt, sum_of_bytes(copy))?;
+    print_sum(rt, sum_of_bytes(findings))?;
+    print_sum(rt, sum_of_numbers(pairs))?;
+    print(rt, b"\n")?;
+    print(rt, lent::part(findings, 0, lengths.findings))
 }
 
-fn list_on(file: &[u8], copy: &mut [u8], findings: &mut [u8], pairs: &mut [u32], out: &mut [u8]) {
+fn list_on(
+    rt: &impl Print,
+    file: &[u8],
+    copy: &mut [u8],
+    findings: &mut [u8],
+    pairs: &mut [u32],
+    out: &mut [u8],
+) -> io::Result<()> {
     let answer = listing::listing(file, copy, findings, pairs, out);
-    let lengths = print_list_answer(answer);
-    print_sum(sum_of_bytes(copy));
-    print_sum(sum_of_bytes(findings));
-    print_sum(sum_of_numbers(pairs));
-    print_sum(sum_of_bytes(out));
-    print(b"\n");
-    print(lent::part(findings, 0, lengths.findings));
-    print(lent::part(out, 0, lengths.text));
+    let lengths = print_list_answer(rt, answer)?;
+    print_sum(rt, sum_of_bytes(copy))?;
+    print_sum(rt, sum_of_bytes(findings))?;
+    print_sum(rt, sum_of_numbers(pairs))?;
+    print_sum(rt, sum_of_bytes(out))?;
+    print(rt, b"\n")?;
+    print(rt, lent::part(findings, 0, lengths.findings))?;
+    print(rt, lent::part(out, 0, lengths.text))
 }
 
-fn pair_on(file: &[u8], asked: u32, copy: &mut [u8], pairs: &mut [u32]) {
+fn pair_on(
+    rt: &impl Print,
+    file: &[u8],
+    asked: u32,
+    copy: &mut [u8],
+    pairs: &mut [u32],
+) -> io::Result<()> {
     let answer = judge::pair(file, asked / 65536, asked % 65536, copy, pairs);
-    print_pair_answer(answer);
-    print_sum(sum_of_bytes(copy));
-    print_sum(sum_of_numbers(pairs));
-    print(b"\n");
+    print_pair_answer(rt, answer)?;
+    print_sum(rt, sum_of_bytes(copy))?;
+    print_sum(rt, sum_of_numbers(pairs))?;
+    print(rt, b"\n")
 }
 
 fn answer_asked(
+    rt: &impl Print,
     file: &[u8],
     asked: u32,
     copy: &mut [u8],
     findings: &mut [u8],
     pairs: &mut [u32],
     out: &mut [u8],
-) {
+) -> io::Result<()> {
     match asked {
-        4294967295 => list_on(file, copy, findings, pairs, out),
-        4294967294 => judge_on(file, copy, findings, pairs),
-        _ => pair_on(file, asked, copy, pairs),
+        4294967295 => list_on(rt, file, copy, findings, pairs, out),
+        4294967294 => judge_on(rt, file, copy, findings, pairs),
+        _ => pair_on(rt, file, asked, copy, pairs),
     }
 }
 
@@ -154,65 +177,81 @@ fn number(question: &[u8], k: u8) -> u32 {
 }
 
 fn answer_on(
+    rt: &impl Print,
     file: &[u8],
     question: &[u8],
     copy: &mut [u8],
     findings: &mut [u8],
     pairs: &mut [u32],
     out: &mut [u8],
-) {
+) -> io::Result<()> {
     let c = lent::least(number(question, 2) as usize, copy.len());
     let f = lent::least(number(question, 3) as usize, findings.len());
     let p = lent::least(number(question, 4) as usize, pairs.len());
     let t = lent::least(number(question, 5) as usize, out.len());
     answer_asked(
+        rt,
         file,
         number(question, 1),
         &mut copy[0..c],
         &mut findings[0..f],
         &mut pairs[0..p],
         &mut out[0..t],
-    );
+    )
 }
 
-fn answer(file: &[u8], question: &[u8]) {
+fn answer(rt: &impl Print, file: &[u8], question: &[u8]) -> io::Result<()> {
     let mut copy = [170u8; 131080];
     let mut findings = [170u8; 262144];
     let mut pairs = [170u32; 65800];
     let mut out = [170u8; 600000];
     answer_on(
+        rt,
         file,
         question,
         &mut copy,
         &mut findings,
         &mut pairs,
         &mut out,
-    );
+    )
+}
+
+// Reads until the buffer is full or the input ends, and returns how many bytes there are.
+fn read_full(input: &mut impl Read, buffer: &mut [u8]) -> io::Result<usize> {
+    let length = buffer.len() as u64;
+    let mut rest = buffer;
+    Ok(io::copy(&mut input.take(length), &mut rest)? as usize)
 }
 
 // The file that follows a question.
-fn answer_from(question: &[u8], buffer: &mut [u8]) {
+fn answer_from(
+    rt: &impl Print,
+    input: &mut impl Read,
+    question: &[u8],
+    buffer: &mut [u8],
+) -> io::Result<()> {
     let claimed = lent::least(number(question, 0) as usize, buffer.len());
-    let n = io::read_full(STDIN_FILENO, &mut buffer[0..claimed]);
-    answer(lent::part(buffer, 0, n), question);
+    let n = read_full(input, &mut buffer[0..claimed])?;
+    answer(rt, lent::part(buffer, 0, n), question)
 }
 
-fn answer_next(question: &[u8]) {
+fn answer_next(rt: &impl Print, input: &mut impl Read, question: &[u8]) -> io::Result<()> {
     let mut buffer = [0u8; 131080];
-    answer_from(question, &mut buffer);
+    answer_from(rt, input, question, &mut buffer)
 }
 
-fn answer_all() {
-    for i in 0..1000000u32 {
+fn answer_all(rt: &impl Print, input: &mut impl Read) -> io::Result<()> {
+    for _ in 0..1000000u32 {
         let mut question = [0u8; 24];
-        let n = io::read_full(STDIN_FILENO, &mut question);
+        let n = read_full(input, &mut question)?;
         if n < 24 {
-            return;
+            return Ok(());
         }
-        answer_next(&question);
+        answer_next(rt, input, &question)?;
     }
+    Ok(())
 }
 
-fn main() {
-    answer_all();
+fn main(rt: HostRuntime) -> io::Result<()> {
+    answer_all(&rt, &mut rt.stdin())
 }

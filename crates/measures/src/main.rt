@@ -4,7 +4,8 @@
 //   EYE code, number, the bits of width, height, depth and italic correction    for each code from 0 to 256 that is not missing
 #![tactic(auto)]
 
-use libc::{STDIN_FILENO, STDOUT_FILENO};
+use std::io;
+use std::io::Read;
 
 const MARKED: [u32; 11] = [
     0x0000_0000,
@@ -20,63 +21,62 @@ const MARKED: [u32; 11] = [
     0x8000_0000,
 ];
 
-fn print(text: &[u8]) {
-    io::write_all(STDOUT_FILENO, text);
+fn print(rt: &impl Print, text: &[u8]) -> io::Result<()> {
+    rt.write_all(text)
 }
 
-fn print_number(n: u64) {
-    print(b" ");
-    io::print_decimal(STDOUT_FILENO, n);
+fn print_number(rt: &impl Print, n: u64) -> io::Result<()> {
+    print!(rt; " {n}")
 }
 
-fn print_decimal_of(word: u32) {
+fn print_decimal_of(rt: &impl Print, word: u32) -> io::Result<()> {
     let d = decimal::decimal(word);
     let bytes = d.bytes;
-    io::print_hex(STDOUT_FILENO, word as u64, 8);
-    print(b" ");
-    print(lent::part(&bytes, 0, d.len));
-    print(b"\n");
+    print!(rt; "{word:08x} ")?;
+    print(rt, lent::part(&bytes, 0, d.len))?;
+    print(rt, b"\n")
 }
 
-fn print_marked() {
+fn print_marked(rt: &impl Print) -> io::Result<()> {
     for i in 0..11usize {
-        print_decimal_of(MARKED[i]);
+        print_decimal_of(rt, MARKED[i])?;
     }
+    Ok(())
 }
 
-fn print_twelve(sizes: [u16; 12]) {
+fn print_twelve(rt: &impl Print, sizes: [u16; 12]) -> io::Result<()> {
     for i in 0..12usize {
-        print_number(sizes[i] as u64);
+        print_number(rt, sizes[i] as u64)?;
     }
+    Ok(())
 }
 
-fn print_sizes(file: &[u8]) {
+fn print_sizes(rt: &impl Print, file: &[u8]) -> io::Result<()> {
     let answer = tfm::sizes(file);
     let sizes = answer.sizes;
-    print(b"SIZES");
-    print_number(answer.number as u64);
-    print_twelve(sizes);
-    print(b"\n");
+    print(rt, b"SIZES")?;
+    print_number(rt, answer.number as u64)?;
+    print_twelve(rt, sizes)?;
+    print(rt, b"\n")
 }
 
-fn print_subfile(file: &[u8], k: u8) {
+fn print_subfile(rt: &impl Print, file: &[u8], k: u8) -> io::Result<()> {
     let bytes = tfm::subfile(file, k);
-    print(b"SUBFILE");
-    print_number(k as u64);
-    print_number(tfm::subfile_number(file, k) as u64);
-    print_number(bytes.len() as u64);
-    print_number(lent::at(bytes, 0) as u64);
-    print_number(lent::at(
-        lent::part(bytes, bytes.len() - lent::least(1, bytes.len()), 1),
-        0,
-    ) as u64);
-    print(b"\n");
+    let last = lent::part(bytes, bytes.len() - lent::least(1, bytes.len()), 1);
+    print(rt, b"SUBFILE")?;
+    print_number(rt, k as u64)?;
+    print_number(rt, tfm::subfile_number(file, k) as u64)?;
+    print_number(rt, bytes.len() as u64)?;
+    print_number(rt, lent::at(bytes, 0) as u64)?;
+    print_number(rt, lent::at(last, 0) as u64)?;
+    print(rt, b"\n")
 }
 
-fn print_subfiles(file: &[u8]) {
+fn print_subfiles(rt: &impl Print, file: &[u8]) -> io::Result<()> {
     for k in 0..11u8 {
-        print_subfile(file, k);
+        print_subfile(rt, file, k)?;
     }
+    Ok(())
 }
 
 // The bits of a float that is a number.
@@ -84,39 +84,47 @@ fn bits(x: f64) -> u64 {
     if x == x { f64::to_bits(x) } else { 0 }
 }
 
-fn print_bits(x: f64) {
-    print(b" ");
-    io::print_hex(STDOUT_FILENO, bits(x), 16);
+fn print_bits(rt: &impl Print, x: f64) -> io::Result<()> {
+    let b = bits(x);
+    print!(rt; " {b:016x}")
 }
 
-fn print_eye_lengths(file: &[u8], code: u32) {
+fn print_eye_lengths(rt: &impl Print, file: &[u8], code: u32) -> io::Result<()> {
     let answer = tfm::eye_lengths(file, code);
     let lengths = answer.lengths;
     if answer.number == 18 {
-        return;
+        return Ok(());
     }
-    print(b"EYE");
-    print_number(code as u64);
-    print_number(answer.number as u64);
-    print_bits(lengths.width);
-    print_bits(lengths.height);
-    print_bits(lengths.depth);
-    print_bits(lengths.italic);
-    print(b"\n");
+    print(rt, b"EYE")?;
+    print_number(rt, code as u64)?;
+    print_number(rt, answer.number as u64)?;
+    print_bits(rt, lengths.width)?;
+    print_bits(rt, lengths.height)?;
+    print_bits(rt, lengths.depth)?;
+    print_bits(rt, lengths.italic)?;
+    print(rt, b"\n")
 }
 
-fn print_codes(file: &[u8]) {
+fn print_codes(rt: &impl Print, file: &[u8]) -> io::Result<()> {
     for code in 0..257u32 {
-        print_eye_lengths(file, code);
+        print_eye_lengths(rt, file, code)?;
     }
+    Ok(())
 }
 
-fn main() {
+// Reads until the buffer is full or the input ends, and returns how many bytes there are.
+fn read_full(input: &mut impl Read, buffer: &mut [u8]) -> io::Result<usize> {
+    let length = buffer.len() as u64;
+    let mut rest = buffer;
+    Ok(io::copy(&mut input.take(length), &mut rest)? as usize)
+}
+
+fn main(rt: HostRuntime) -> io::Result<()> {
     let mut buffer = [0u8; 262144];
-    let n = io::read_full(STDIN_FILENO, &mut buffer);
+    let n = read_full(&mut rt.stdin(), &mut buffer)?;
     let file = lent::part(&buffer, 0, n);
-    print_marked();
-    print_sizes(file);
-    print_subfiles(file);
-    print_codes(file);
+    print_marked(&rt)?;
+    print_sizes(&rt, file)?;
+    print_subfiles(&rt, file)?;
+    print_codes(&rt, file)
 }
