@@ -10,7 +10,7 @@ use Rattle.lent.specs.Write.{Text, byte, lit, ◌▹◌, each, flat}
 use Rattle.ink.specs.Ink.{indent}
 use Rattle.ink.specs.Ink as Ink
 use Rattle.items.specs.Items.{Word, word_text, Items, empty, leaf, group, ◌▸◌, choose, loop, with_words, head, close, render}
-use Rattle.forest.specs.Forest.{Forest, end, node, ◌⊕◌, blank, line, left, right, mark_of, onto, is_comment, Stack, bottom, above, State, between, heading, skipping, grown, step, feed, finish, parse}
+use Rattle.forest.specs.Forest.{Forest, end, node, ◌⊕◌, blank, left, right, mark_of, onto, is_comment, Stack, bottom, above, State, between, heading, skipping, grown, step, feed, finish, parse}
 use Rattle.forest.specs.Plain.{word_bytes, head_bytes, group_bytes, plain}
 use Rattle.forest.proofs.Quiet.{calm, Good, good_empty, good_leaf, good_group, good_both, good_choose, good_loop, Quiet, over, gap, sign, head_quiet}
 

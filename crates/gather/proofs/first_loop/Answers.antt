@@ -1,5 +1,4 @@
 -- No entry below i loops.
-use Prim.Native.Nat.{◌-◌}
 use native.Mathlib.Omega.{arith}
 use borrow.Author.Count.{below_more}
 use Rattle.gather.proofs.first_loop.Goals as goal

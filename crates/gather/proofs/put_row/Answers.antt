@@ -1,5 +1,4 @@
 -- The turns of the loop are those of `each`.
-use Prim.Native.Nat.{◌-◌}
 use native.Mathlib.Omega.{arith}
 use Rattle.lent.proofs.Ends.{keeps}
 use Rattle.lent.proofs.Writes.{no_turn, one_turn, all_turns}

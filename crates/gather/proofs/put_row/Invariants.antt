@@ -1,5 +1,5 @@
 -- The turns of the loop are those of `each`.
-use Prim.Native.Nat.{◌≤◌, ◌-◌}
+use Prim.Native.Nat.{◌≤◌}
 use Rattle.lent.specs.Write.{Wrote, pen, each}
 use Rattle.gather.specs.Pairs.{row_in}
 use Rattle.gather.proofs.put_row.Given as goal

@@ -1,5 +1,4 @@
 -- What the table has and what the program says from step i on are the whole.
-use Prim.Native.Nat.{◌-◌}
 use native.Mathlib.Omega.{arith}
 use Rattle.gather.proofs.Walks.{on_start, on_more, on_end, next_later}
 use Rattle.gather.proofs.walk.Goals as goal

@@ -1,5 +1,4 @@
 -- As `lent::wipe`: after i turns there are i zeros, and the rest is as it was.
-use Prim.Native.Nat.{◌-◌}
 use native.Mathlib.Omega.{arith}
 use lib.ListN.{length-set}
 use borrow.Author.Fill.{fill_more}

@@ -1,6 +1,5 @@
 -- The turns of the loop are those of `loop`.
 use borrow.Author.Rules.{rules}
-use Prim.Native.Nat.{◌-◌}
 use Rattle.items.proofs.Laws.{keeps, no_round, one_round, all_rounds}
 use Rattle.listing.proofs.characters.put_each_character.Goals as goal
 

@@ -1,5 +1,5 @@
 -- The turns of the loop are those of `loop`.
-use Prim.Native.Nat.{◌≤◌, ◌-◌}
+use Prim.Native.Nat.{◌≤◌}
 use Rattle.lent.specs.Write.{pen}
 use Rattle.items.specs.Items.{loop, Listed}
 use Rattle.listing.specs.Characters.{character_item}
