@@ -7,7 +7,7 @@
  *   - it is aligned for its type, and it is not NULL even where the length is 0 (a length of 0 is legal);
  *   - writable buffers hold any values, and none of them overlaps another buffer of the same call;
  *   - no other thread writes a buffer of the call, or reads a writable one, while the call runs;
- *   - the stack has room. nyelgomir_verdict, _listing and _pair take less than 192 KiB and 64 bytes for each pair that is being settled at
+ *   - the stack has room. nyelgomir_verdict, _listing and _pair take less than 224 KiB and 64 bytes for each pair that is being settled at
  *     once, at most NYELGOMIR_PAIR_ENTRIES of them: 4.5 MB in all, which a thread must be given where its stack is smaller.
  *     The other functions take less than 4 KiB. (Measured, docs/BENCH.md; a proof says nothing of the stack.)
  *
