@@ -3,7 +3,7 @@ use Rattle.std.specs.Prelude.{ℕ, ◌≡◌, List, [], ◌∷◌, Float}
 use Rattle.tfm.specs.Sizes.{layout_of}
 use Rattle.tfm.specs.declared.EyeLengths.{EyeLengths}
 use Rattle.judge.specs.Judge.{Verdict, no_verdict, clean, mended_so, looping, Answer, answer, Outcome, no_outcome, code, never, PairSays, says, Judged, Paired}
-use Rattle.listing.specs.Listing.{Says, says as listSays, ListedAs}
+use Rattle.listing.specs.Listing.{Says, says as list_says, ListedAs}
 
 abbrev pub floats_of : EyeLengths → List Float
 floats_of e = e.width ∷ e.height ∷ e.depth ∷ e.italic ∷ []
@@ -16,17 +16,17 @@ verdict_number looping = 3
 
 -- a verdict: its number, and the length of the findings
 abbrev pub number_in : Answer → ℕ
-number_in (answer n verdict findings) = n
+number_in (answer n _ _) = n
 
 abbrev pub numbers_in : Answer → List ℕ
 numbers_in (answer n verdict findings) = verdict_number verdict ∷ findings ∷ []
 
 -- a listing: the verdict's number, and the lengths of the findings and of the text
 abbrev pub list_number : Says → ℕ
-list_number (listSays n verdict findings text) = n
+list_number (list_says n _ _ _) = n
 
 abbrev pub list_numbers : Says → List ℕ
-list_numbers (listSays n verdict findings text) = verdict_number verdict ∷ findings ∷ text ∷ []
+list_numbers (list_says n verdict findings text) = verdict_number verdict ∷ findings ∷ text ∷ []
 
 -- a pair: 1 and the code left of the cursor, or 2 where its rewriting never ends
 abbrev pub outcome_numbers : Outcome → List ℕ
@@ -35,7 +35,7 @@ outcome_numbers (code w) = 1 ∷ w ∷ []
 outcome_numbers never = 2 ∷ 0 ∷ []
 
 abbrev pub pair_number : PairSays → ℕ
-pair_number (says n outcome) = n
+pair_number (says n _) = n
 
 abbrev pub pair_numbers : PairSays → List ℕ
 pair_numbers (says n outcome) = outcome_numbers outcome
