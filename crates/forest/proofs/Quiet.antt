@@ -8,7 +8,7 @@ use mathlib.Core.Logic.{◌⊎◌, inl, inr, ⊎_elim}
 use lib.Dec.{leb, ltb, eqb}
 use borrow.Author.Tests.{ne_eqb, leb-true, ltb-true}
 use Rattle.lent.specs.Write.{flat}
-use Rattle.ink.specs.Ink.{digits, number, octal, code as charText, between as inside, alphanumeric}
+use Rattle.ink.specs.Ink.{digits, number, octal, code as char_text, between as inside, alphanumeric}
 use Rattle.decimal.specs.Text.{text_of, negative, whole, rest, nudged, places}
 use Rattle.items.specs.Items.{Word, raw, code, oct, dec, real, word_text, Items, empty, leaf, group, ◌▸◌, choose, loop, jumps}
 use Rattle.forest.specs.Forest.{blank, line, left, right, other, mark_of}
@@ -151,7 +151,7 @@ unfolding mark_of
 after_letter b e h = gap refl (sign e (gap refl (high_quiet h)))
 
 word_quiet : (w : Word) (ws : List Word) → quiet_words (w ∷ ws) ≡ true → Quiet (flat (word_text w)) × (quiet_words ws ≡ true)
-unfolding word_text flat octal number charText mark_of quiet_words
+unfolding word_text flat octal number char_text mark_of quiet_words
 word_quiet (raw s) ws e = let h = (and-eq-true_iff (quiet s) (quiet_words ws)).0 e in (gap refl (quiet_list s h.0), h.1)
 word_quiet (code letters c) ws e = (go letters (alphanumeric c) (alphanumeric_high c), e)
   where

@@ -9,7 +9,7 @@ use borrow.Author.Tests.{eqb-true, ne_eqb}
 use Rattle.lent.proofs.Bools.{not_true}
 use Rattle.lent.specs.Fold.{iterate}
 use Rattle.lent.specs.Write.{flat, codes}
-use Rattle.ink.specs.Ink.{digits, octal, number, code as charText, between, alphanumeric}
+use Rattle.ink.specs.Ink.{digits, octal, number, code as char_text, between, alphanumeric}
 use Rattle.faults.specs.Header.{upper}
 use Rattle.items.specs.Items.{Word, raw, code, oct, dec, real, word_text, Items, empty, leaf, group, ◌▸◌, choose, loop}
 use Rattle.forest.specs.Forest.{Forest, end, node, ◌⊕◌, past, in_name, name_at, after_name, name_of, rest_of, same, is_comment}
@@ -96,7 +96,7 @@ not_comment (b ∷ n) s e h =
 
 -- the words of a head: each begins with a blank
 word_stops : (w : Word) (s : List ℕ) → Stops (flat (word_text w) ++ s)
-unfolding word_text flat octal number charText
+unfolding word_text flat octal number char_text
 word_stops (raw t) s = at_blank
 word_stops (code letters c) s = go (letters && alphanumeric c)
   where

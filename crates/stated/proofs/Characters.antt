@@ -15,7 +15,7 @@ use Rattle.tfm.specs.Lengths.{word_of}
 use Rattle.tfm.specs.declared.Layout.{Layout}
 use Rattle.tfm.specs.declared.CharInfo.{CharInfo}
 use Rattle.items.specs.Items.{Items, word_text}
-use Rattle.listing.specs.Characters.{width_item, length_item, length_items, shown, piece_item, optional_item, recipe_items, varchar as varcharItem, tag_item, present_item, character_item}
+use Rattle.listing.specs.Characters.{width_item, length_item, length_items, shown, piece_item, optional_item, recipe_items, varchar as varchar_item, tag_item, present_item, character_item}
 use Rattle.forest.specs.Forest.{in_name, same, past}
 use Rattle.forest.proofs.Quiet.{is_quiet, quiet, quiet_words, calm}
 use Rattle.forest.specs.Plain.{word_bytes}
@@ -77,8 +77,8 @@ module _ {A : Type 0} (tell : A → Statement → A) where
         (λ d. tells_at (rw d) (tells_piece tell e q letters (shown infos l c x) i (shown_low x h)))
 
     one_recipe : (recipes : List ℕ) (r : ℕ) → ((i j : ℕ) → byte_of recipes i j < 256)
-        → Tells tell (character c) (varcharItem letters infos l c recipes r) (recipe_stated infos recipes l c r ∷ []) (character c)
-    unfolding varcharItem recipe_items piece_item recipe_stated leaves tells entry_in in_character in_varchar same is_name in_full in_name alphanumeric between upper
+        → Tells tell (character c) (varchar_item letters infos l c recipes r) (recipe_stated infos recipes l c r ∷ []) (character c)
+    unfolding varchar_item recipe_items piece_item recipe_stated leaves tells entry_in in_character in_varchar same is_name in_full in_name alphanumeric between upper
     one_recipe recipes r b =
         let t = piece_stated infos l c (byte_of recipes r 0) in
         let m = piece_stated infos l c (byte_of recipes r 1) in

@@ -20,7 +20,7 @@ use Rattle.forest.specs.Forest.{past, in_name, name_at, name_of, same, is_commen
 use Rattle.forest.specs.Plain.{word_bytes}
 use Rattle.forest.proofs.Quiet.{is_quiet, quiet, quiet_words, calm}
 use Rattle.reading.specs.Values.{took, code_in, code_at, code_of, face_in, face_of, place_in, ranged, real_in, real_at, signs_in, point_in, digits_in, digit_of, parts, signed, printable, capitals, bounded}
-use Rattle.reading.specs.Heads.{Statement, check_sum, design_size, scheme, family, face, header_word as headerWordSaid, top, within, enters, any, states, spells, flag_at, numbers_word, at_top, entry_in, has_list}
+use Rattle.reading.specs.Heads.{Statement, check_sum, design_size, scheme, family, face, header_word as header_word_said, top, within, enters, any, states, spells, flag_at, numbers_word, at_top, entry_in, has_list}
 use Rattle.reading.proofs.Reals.{Bounded}
 use Rattle.reading.proofs.Tells.{in_full, is_name, name_calm, known, words_stop, none_left, Tells, tells_as, tells_none, tells_then, tells_choose, tells_either, tells_loop, tells_leaf, tells_remark, tells_real, tells_word, tells_octal, tells_numbered_word}
 use Rattle.stated.specs.Stated.{in_turn, further_stated, family_stated, strings_stated, design_stated, header_stated}
@@ -136,9 +136,9 @@ module _ {A : Type 0} (tell : A → Statement → A) where
       ∙ rw (face_back k l) (none_left (within top) (face k ∷ []) true)))
       (λ e. tells_octal tell refl face 0 255 k (λ s. refl) (omega arith) (omega arith) (omega arith))
 
-  one_word : (h : List ℕ) (i : ℕ) → i + 18 ≤ 32767 → word_of h (i + 18) < 4294967296 → Tells tell top (header_word h i) (headerWordSaid (i + 18) (word_of h (i + 18)) ∷ []) top
+  one_word : (h : List ℕ) (i : ℕ) → i + 18 ≤ 32767 → word_of h (i + 18) < 4294967296 → Tells tell top (header_word h i) (header_word_said (i + 18) (word_of h (i + 18)) ∷ []) top
   unfolding header_word entry_in at_top numbers_word same is_name in_full in_name alphanumeric between upper
-  one_word h i b w = tells_numbered_word tell refl headerWordSaid 18 32767 (i + 18) (word_of h (i + 18)) (λ s. refl) (omega arith) b (omega arith) w
+  one_word h i b w = tells_numbered_word tell refl header_word_said 18 32767 (i + 18) (word_of h (i + 18)) (λ s. refl) (omega arith) b (omega arith) w
 
   one_design : (h : List ℕ) → word_of h 1 < 4294967296 → Tells tell top (design_item h) (design_size (design_stated h) ∷ []) top
   unfolding design_item design_stated entry_in at_top same is_name in_full in_name alphanumeric between upper states any quiet_words

@@ -9,14 +9,14 @@ use lib.ListN.{length, get_or}
 use borrow.Author.Tests.{eqb-true, eqb-false, ne_eqb, eq-eqb, leb-false, ltb-true}
 use Rattle.lent.specs.Fold.{iterate}
 use Rattle.lent.specs.Write.{codes, flat}
-use Rattle.ink.specs.Ink.{digits, octal, code as charText, between, alphanumeric}
+use Rattle.ink.specs.Ink.{digits, octal, code as char_text, between, alphanumeric}
 use Rattle.faults.specs.Header.{upper}
 use Rattle.tfm.specs.Characters.{byte_of}
 use Rattle.tfm.specs.Lengths.{word_of}
 use Rattle.program.specs.Steps.{address_of}
 use Rattle.items.specs.Items.{raw, code, word_text, leaf}
 use Rattle.ligatures.specs.Labels.{label_item, boundary_label, label_items}
-use Rattle.ligatures.specs.Ligatures.{boundary_item, kern_item, ligature_item, step_item, count_step, skipped, tail_item, unused_step, unused, accessible_item, piece, run_end, piece_end, ligtable as ligtableItem, program_comment}
+use Rattle.ligatures.specs.Ligatures.{boundary_item, kern_item, ligature_item, step_item, count_step, skipped, tail_item, unused_step, unused, accessible_item, piece, run_end, piece_end, ligtable as ligtable_item, program_comment}
 use Rattle.forest.specs.Forest.{past, in_name, name_at, name_of, same, is_comment}
 use Rattle.forest.specs.Plain.{word_bytes}
 use Rattle.forest.proofs.Quiet.{is_quiet, quiet, quiet_words, calm, good_empty, good_choose, good_loop, good_jumps}
@@ -31,7 +31,7 @@ use Rattle.stated.specs.Stated.{in_turn, boundary_stated, label_stated, labels_s
 
 -- a label's code begins with C or O, and so is none of the boundary's
 label_code : (letters : Bool) (c : ℕ) → label_at (past (word_bytes (code letters c ∷ []))) ≡ states ligtable label true (code_in 0 255 (word_bytes (code letters c ∷ [])))
-unfolding label_at past word_bytes word_text flat charText octal code_in upper
+unfolding label_at past word_bytes word_text flat char_text octal code_in upper
 label_code letters c = go (letters && alphanumeric c)
   where
     go : (b : Bool) → label_at (past (cond b (32 ∷ 67 ∷ 32 ∷ c ∷ []) (32 ∷ 79 ∷ 32 ∷ digits 8 11 c) ++ [])) ≡ states ligtable label true (code_in 0 255 (cond b (32 ∷ 67 ∷ 32 ∷ c ∷ []) (32 ∷ 79 ∷ 32 ∷ digits 8 11 c) ++ []))
@@ -183,8 +183,8 @@ module _ {A : Type 0} (tell : A → Statement → A) where
             let z : get_or m i 0 ≡ 2 = omega (arith, marks i, eqb-false (get_or m i 0) 0 e, eqb-false (get_or m i 0) 1 d) in
             tells_as tell (sym (single_piece i e ∙ rw (eq-eqb (get_or m i 0) 2 z))) (accessible i)))
 
-        pub whole_program : Tells tell top (ligtableItem letters s kerns m starts nl) (program_stated s kerns m starts nl) top
-        unfolding ligtableItem program_stated leaves tells g entry_in at_top same is_name in_full in_name alphanumeric between upper
+        pub whole_program : Tells tell top (ligtable_item letters s kerns m starts nl) (program_stated s kerns m starts nl) top
+        unfolding ligtable_item program_stated leaves tells g entry_in at_top same is_name in_full in_name alphanumeric between upper
         whole_program =
             tells_choose tell
             (λ e. tells_none tell)
