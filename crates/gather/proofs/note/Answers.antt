@@ -7,7 +7,7 @@ use Rattle.gather.proofs.Walks.{keep_test, noted_over, noted_at}
 use Rattle.gather.proofs.note.Goals as goal
 
 pub returns-then-byte_of-gt128 : goal.returns-then-byte_of-gt128
-returns-then-byte_of-gt128 c = noted_over _ _ _ _ c.byte_of.ensures c.if-byte_of-gt128.true
+returns-then-byte_of-gt128 c = noted_over _ _ _ _ c.byte_of.ensures (omega arith)
 
 pub overflow_add-v : goal.overflow_add-v
 overflow_add-v c =
@@ -19,7 +19,7 @@ overflow_add-v c =
 pub returns : goal.returns
 returns c =
     let stored = c.store_code in
-    noted_at _ _ _ _ _ c.byte_of.ensures c.if-byte_of-gt128.false (stored.ensures ∙ rw (
+    noted_at _ _ _ _ _ c.byte_of.ensures (omega arith) (stored.ensures ∙ rw (
       c.choose.ensures,
       keep_test,
       c.number_at-held.ensures,
