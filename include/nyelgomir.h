@@ -135,7 +135,7 @@ enum nyelgomir_finding {
 enum { NYELGOMIR_FINDING_BYTES = 7 };
 
 /* Sizes that always suffice, for a file of lf words (at most NYELGOMIR_LARGEST_LF, which is 131,068 bytes): with these an accepted file is never
- * refused with 13, 14 or 15, which is proved (never-short, crates/judge/proofs/Enough.antt). No such size is given for a listing, which can have
+ * refused with 13, 14 or 15, which is proved (never_short, crates/judge/proofs/Enough.antt). No such size is given for a listing, which can have
  * hundreds of megabytes: begin with what you can spare, and lend more after NYELGOMIR_LISTING_TOO_SHORT. */
 #define NYELGOMIR_LARGEST_LF 32767
 #define NYELGOMIR_COPY_BYTES(lf) (4 * (size_t)(lf))

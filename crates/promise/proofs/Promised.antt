@@ -22,7 +22,7 @@ use Rattle.building.specs.Build.{file_for, file_of, build}
 use Rattle.clean.specs.Clean.{verdict_in, Clean}
 use Rattle.clean.proofs.Verdicts.{judged_clean}
 use Rattle.stated.proofs.FontBack.{font_back}
-use Rattle.promise.specs.Promise.{LeftCode, Kept, Promised, Returned, too_much_lem, returned}
+use Rattle.promise.specs.Promise.{LeftCode, Kept, Promised, Returned, too_large, returned}
 use Rattle.promise.proofs.Sanely.{unrepaired}
 use Rattle.clean.proofs.Own.{own_program}
 use Rattle.stated.proofs.Live.{clear}
@@ -103,7 +103,7 @@ unfolding file_for
 promised {f} {l} j q bytes over letters = go (judged_clean j q) (too_much (listed_of f l)) refl
   where
     go : Clean f l → (b : Bool) → too_much (listed_of f l) ≡ b → Returned f l (text_in letters f l clean)
-    go h true much = too_much_lem (build_is f l h.later h.number h.unmended over bytes letters ∙ rw much)
+    go h true much = too_large (build_is f l h.later h.number h.unmended over bytes letters ∙ rw much)
     go h false much =
         returned (written (listed_of f l)) (build_is f l h.later h.number h.unmended over bytes letters ∙ rw much)
         (promised_own f l h.later h.number h.unmended h.settled over bytes much)

@@ -91,7 +91,7 @@ pub record Promised (f : List ℕ) (l : Layout) (g : List ℕ) : Type 0 where
 
 -- THE PROMISE of a text: 21 refuses what is read of it, or the file that is built of it is as promised.
 pub data Returned (f : List ℕ) (l : Layout) (text : List ℕ) : Type 0 where
-  too_much_lem : build text ≡ refuses 21 → Returned f l text
+  too_large : build text ≡ refuses 21 → Returned f l text
   returned : (g : List ℕ) → build text ≡ accepts g → Promised f l g → Returned f l text
 
 -- A code that lies between two that exist. A missing code that lies elsewhere has no place in the file read back, and its label is lost: steps that only its program meets are not listed the second time.
