@@ -1,4 +1,5 @@
 -- By the subfile.
+use native.Mathlib.Omega.{arith}
 use borrow.Author.Tests.{ne_eqb}
 use Rattle.mend.specs.Copy.{mended_in}
 use Rattle.mend.proofs.copy.mended_in.Goals as goal
@@ -25,5 +26,11 @@ returns-in-9 c = rw c.in-9.is c.mended_parameter.ensures
 
 pub returns-in_default : goal.returns-in_default
 unfolding mended_in
-returns-in_default c = let r = c.in_default.in_default-own.rest in
-    rw (ne_eqb _ _ r.0.0.0.0.1, ne_eqb _ _ r.0.0.0.1, ne_eqb _ _ r.0.0.1, ne_eqb _ _ r.0.1, ne_eqb _ _ r.1) c.mended_length.ensures
+returns-in_default c =
+    rw (
+      ne_eqb c.args.k 0 (omega arith),
+      ne_eqb c.args.k 1 (omega arith),
+      ne_eqb c.args.k 6 (omega arith),
+      ne_eqb c.args.k 8 (omega arith),
+      ne_eqb c.args.k 9 (omega arith),
+    ) c.mended_length.ensures

@@ -1,4 +1,6 @@
 -- By the byte's place in its word.
+use Prim.Native.Nat.{◌%◌}
+use native.Mathlib.Omega.{arith}
 use borrow.Author.Tests.{ne_eqb}
 use Rattle.mend.specs.Copy.{mended_step}
 use Rattle.mend.proofs.copy.mended_step.Goals as goal
@@ -32,5 +34,11 @@ returns-in-2 c =
 
 pub returns-in_default : goal.returns-in_default
 unfolding mended_step
-returns-in_default c = let r = c.in_default.in_default-own.rest in
-    rw (ne_eqb _ _ r.0.0.1, ne_eqb _ _ r.0.1, ne_eqb _ _ r.1, ← c.at-b.ensures, ← c.ligature_to_missing.ensures) c.first-in_default.ensures
+returns-in_default c =
+    rw (
+      ne_eqb (c.args.i % 4) 0 (omega arith),
+      ne_eqb (c.args.i % 4) 1 (omega arith),
+      ne_eqb (c.args.i % 4) 2 (omega arith),
+      ← c.at-b.ensures,
+      ← c.ligature_to_missing.ensures,
+    ) c.first-in_default.ensures

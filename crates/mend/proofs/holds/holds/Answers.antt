@@ -1,4 +1,5 @@
 -- By the tag.
+use native.Mathlib.Omega.{arith}
 use borrow.Author.Tests.{ne_eqb}
 use Rattle.mend.specs.Holds.{holds_of}
 use Rattle.mend.proofs.holds.holds.Goals as goal
@@ -93,5 +94,28 @@ returns-in-23 c = rw c.in-23.is c.bad_recipe.ensures
 
 pub returns-in_default : goal.returns-in_default
 unfolding holds_of
-returns-in_default c = let r = c.in_default.in_default-own.rest in
-    rw (ne_eqb _ _ r.0.0.0.0.0.0.0.0.0.0.0.0.0.0.0.0.0.0.0.0.0.1, ne_eqb _ _ r.0.0.0.0.0.0.0.0.0.0.0.0.0.0.0.0.0.0.0.0.1, ne_eqb _ _ r.0.0.0.0.0.0.0.0.0.0.0.0.0.0.0.0.0.0.0.1, ne_eqb _ _ r.0.0.0.0.0.0.0.0.0.0.0.0.0.0.0.0.0.0.1, ne_eqb _ _ r.0.0.0.0.0.0.0.0.0.0.0.0.0.0.0.0.0.1, ne_eqb _ _ r.0.0.0.0.0.0.0.0.0.0.0.0.0.0.0.0.1, ne_eqb _ _ r.0.0.0.0.0.0.0.0.0.0.0.0.0.0.0.1, ne_eqb _ _ r.0.0.0.0.0.0.0.0.0.0.0.0.0.0.1, ne_eqb _ _ r.0.0.0.0.0.0.0.0.0.0.0.0.0.1, ne_eqb _ _ r.0.0.0.0.0.0.0.0.0.0.0.0.1, ne_eqb _ _ r.0.0.0.0.0.0.0.0.0.0.0.1, ne_eqb _ _ r.0.0.0.0.0.0.0.0.0.0.1, ne_eqb _ _ r.0.0.0.0.0.0.0.0.0.1, ne_eqb _ _ r.0.0.0.0.0.0.0.0.1, ne_eqb _ _ r.0.0.0.0.0.0.0.1, ne_eqb _ _ r.0.0.0.0.0.0.1, ne_eqb _ _ r.0.0.0.0.0.1, ne_eqb _ _ r.0.0.0.0.1, ne_eqb _ _ r.0.0.0.1, ne_eqb _ _ r.0.0.1, ne_eqb _ _ r.0.1, ne_eqb _ _ r.1)
+returns-in_default c =
+    rw (
+      ne_eqb c.args.t 1 (omega arith),
+      ne_eqb c.args.t 2 (omega arith),
+      ne_eqb c.args.t 3 (omega arith),
+      ne_eqb c.args.t 4 (omega arith),
+      ne_eqb c.args.t 5 (omega arith),
+      ne_eqb c.args.t 6 (omega arith),
+      ne_eqb c.args.t 7 (omega arith),
+      ne_eqb c.args.t 8 (omega arith),
+      ne_eqb c.args.t 9 (omega arith),
+      ne_eqb c.args.t 10 (omega arith),
+      ne_eqb c.args.t 11 (omega arith),
+      ne_eqb c.args.t 12 (omega arith),
+      ne_eqb c.args.t 13 (omega arith),
+      ne_eqb c.args.t 14 (omega arith),
+      ne_eqb c.args.t 15 (omega arith),
+      ne_eqb c.args.t 16 (omega arith),
+      ne_eqb c.args.t 17 (omega arith),
+      ne_eqb c.args.t 19 (omega arith),
+      ne_eqb c.args.t 20 (omega arith),
+      ne_eqb c.args.t 21 (omega arith),
+      ne_eqb c.args.t 22 (omega arith),
+      ne_eqb c.args.t 23 (omega arith),
+    )
