@@ -4,200 +4,123 @@
 // has the answer and a check sum of each buffer that the operation is lent, afterwards; then the findings follow, and the listing.
 #![tactic(auto)]
 
-use judge::{Judgement, PairAnswer};
-use listing::ListAnswer;
 use std::io;
 use std::io::Read;
+use tfm::Refusal;
 
-fn print(rt: &impl Print, text: &[u8]) -> io::Result<()> {
-    rt.write_all(text)
+const LISTING: u32 = 0xFFFF_FFFF;
+
+const VERDICT: u32 = 0xFFFF_FFFE;
+
+// What is lent for an answer.
+#[derive(Drop)]
+struct Buffers<'a> {
+    copy: &'a mut [u8],
+    findings: &'a mut [u8],
+    pairs: &'a mut [u32],
+    out: &'a mut [u8],
 }
 
-fn print_named(rt: &impl Print, name: &str, n: u64) -> io::Result<()> {
-    print!(rt; "{name} {n}")
-}
-
-// 31 times the sum so far and the next value, modulo 2^32.
-fn sum_with(sum: u32, value: u32) -> u32 {
-    (((sum as u64) * 31 + (value as u64)) % 4294967296) as u32
-}
-
-fn sum_of_bytes(s: &[u8]) -> u32 {
-    let n = s.len();
+// The sum of what a buffer holds, each value after 31 times those before it, modulo 2^32.
+fn print_sum<T: Copy + Into<u32>>(rt: &impl Print, buffer: &[T]) -> io::Result<()> {
     let mut sum = 0u32;
-    for i in 0..n {
-        sum = sum_with(sum, lent::at(s, i) as u32);
+    for &value in buffer {
+        sum = sum.wrapping_mul(31).wrapping_add(value.into());
     }
-    sum
-}
-
-fn sum_of_numbers(s: &[u32]) -> u32 {
-    let n = s.len();
-    let mut sum = 0u32;
-    for i in 0..n {
-        sum = sum_with(sum, lent::number_at(s, i));
-    }
-    sum
-}
-
-fn print_sum(rt: &impl Print, sum: u32) -> io::Result<()> {
     print!(rt; " {sum:08x}")
 }
 
-// How many bytes of findings and of listing there are.
-#[derive(Clone, Copy)]
-struct Lengths {
-    findings: usize,
-    text: usize,
+fn print_refusal(rt: &impl Print, refusal: Refusal) -> io::Result<()> {
+    print!(rt; "REFUSED {}", refusal.number())
 }
 
-fn print_refusal(rt: &impl Print, number: u8) -> io::Result<Lengths> {
-    print_named(rt, "REFUSED", number as u64)?;
-    Ok(Lengths {
-        findings: 0,
-        text: 0,
-    })
-}
-
-fn print_verdict(rt: &impl Print, verdict: &str, findings: usize) -> io::Result<Lengths> {
-    print_named(rt, verdict, findings as u64)?;
-    Ok(Lengths { findings, text: 0 })
-}
-
-fn print_listed(
-    rt: &impl Print,
-    verdict: &str,
-    findings: usize,
-    text: usize,
-) -> io::Result<Lengths> {
-    print_named(rt, verdict, findings as u64)?;
-    print_named(rt, "", text as u64)?;
-    Ok(Lengths { findings, text })
-}
-
-fn print_judgement(rt: &impl Print, judgement: Judgement) -> io::Result<Lengths> {
-    match judgement {
-        Judgement::Refused(number) => print_refusal(rt, number),
-        Judgement::Clean(n) => print_verdict(rt, "CLEAN", n),
-        Judgement::Mended(n) => print_verdict(rt, "MENDED", n),
-        Judgement::Looping(n) => print_verdict(rt, "LOOPING", n),
+fn judge_on(rt: &impl Print, file: &[u8], lent: Buffers) -> io::Result<()> {
+    let Buffers {
+        copy,
+        findings,
+        pairs,
+        ..
+    } = lent;
+    let judged = judge::verdict(file, copy, findings, pairs);
+    match judged {
+        Ok(judgement) => print!(rt; "{} {}", judgement.verdict, judgement.findings)?,
+        Err(refusal) => print_refusal(rt, refusal)?,
+    }
+    print_sum(rt, copy)?;
+    print_sum(rt, findings)?;
+    print_sum(rt, pairs)?;
+    println!(rt;)?;
+    match judged {
+        Ok(judgement) => rt.write_all(lent::part(findings, 0, judgement.findings)),
+        Err(_) => Ok(()),
     }
 }
 
-fn print_list_answer(rt: &impl Print, answer: ListAnswer) -> io::Result<Lengths> {
-    match answer {
-        ListAnswer::Refused(number) => print_refusal(rt, number),
-        ListAnswer::Clean(n, text) => print_listed(rt, "CLEAN", n, text),
-        ListAnswer::Mended(n, text) => print_listed(rt, "MENDED", n, text),
-        ListAnswer::Looping(n, text) => print_listed(rt, "LOOPING", n, text),
+fn list_on(rt: &impl Print, file: &[u8], lent: Buffers) -> io::Result<()> {
+    let Buffers {
+        copy,
+        findings,
+        pairs,
+        out,
+    } = lent;
+    let listed = listing::listing(file, copy, findings, pairs, out);
+    match listed {
+        Ok(listing) => print!(rt; "{} {} {}", listing.verdict, listing.findings, listing.text)?,
+        Err(refusal) => print_refusal(rt, refusal)?,
+    }
+    print_sum(rt, copy)?;
+    print_sum(rt, findings)?;
+    print_sum(rt, pairs)?;
+    print_sum(rt, out)?;
+    println!(rt;)?;
+    match listed {
+        Ok(listing) => {
+            rt.write_all(lent::part(findings, 0, listing.findings))?;
+            rt.write_all(lent::part(out, 0, listing.text))
+        }
+        Err(_) => Ok(()),
     }
 }
 
-fn print_pair_answer(rt: &impl Print, answer: PairAnswer) -> io::Result<()> {
-    match answer {
-        PairAnswer::NoOutcome(number) => print_named(rt, "NO OUTCOME", number as u64),
-        PairAnswer::Leaves(code) => print_named(rt, "LEAVES", code as u64),
-        PairAnswer::Loops => print(rt, b"LOOPS"),
+fn pair_on(rt: &impl Print, file: &[u8], asked: u32, lent: Buffers) -> io::Result<()> {
+    let Buffers { copy, pairs, .. } = lent;
+    match judge::pair(file, asked / 65536, asked % 65536, copy, pairs) {
+        Ok(Some(code)) => print!(rt; "LEAVES {code}")?,
+        Ok(None) => print!(rt; "LOOPS")?,
+        Err(refusal) => print!(rt; "NO OUTCOME {}", refusal.number())?,
     }
-}
-
-fn judge_on(
-    rt: &impl Print,
-    file: &[u8],
-    copy: &mut [u8],
-    findings: &mut [u8],
-    pairs: &mut [u32],
-) -> io::Result<()> {
-    let judgement = judge::verdict(file, copy, findings, pairs);
-    let lengths = print_judgement(rt, judgement)?;
-    print_sum(rt, sum_of_bytes(copy))?;
-    print_sum(rt, sum_of_bytes(findings))?;
-    print_sum(rt, sum_of_numbers(pairs))?;
-    print(rt, b"\n")?;
-    print(rt, lent::part(findings, 0, lengths.findings))
-}
-
-fn list_on(
-    rt: &impl Print,
-    file: &[u8],
-    copy: &mut [u8],
-    findings: &mut [u8],
-    pairs: &mut [u32],
-    out: &mut [u8],
-) -> io::Result<()> {
-    let answer = listing::listing(file, copy, findings, pairs, out);
-    let lengths = print_list_answer(rt, answer)?;
-    print_sum(rt, sum_of_bytes(copy))?;
-    print_sum(rt, sum_of_bytes(findings))?;
-    print_sum(rt, sum_of_numbers(pairs))?;
-    print_sum(rt, sum_of_bytes(out))?;
-    print(rt, b"\n")?;
-    print(rt, lent::part(findings, 0, lengths.findings))?;
-    print(rt, lent::part(out, 0, lengths.text))
-}
-
-fn pair_on(
-    rt: &impl Print,
-    file: &[u8],
-    asked: u32,
-    copy: &mut [u8],
-    pairs: &mut [u32],
-) -> io::Result<()> {
-    let answer = judge::pair(file, asked / 65536, asked % 65536, copy, pairs);
-    print_pair_answer(rt, answer)?;
-    print_sum(rt, sum_of_bytes(copy))?;
-    print_sum(rt, sum_of_numbers(pairs))?;
-    print(rt, b"\n")
-}
-
-fn answer_asked(
-    rt: &impl Print,
-    file: &[u8],
-    asked: u32,
-    copy: &mut [u8],
-    findings: &mut [u8],
-    pairs: &mut [u32],
-    out: &mut [u8],
-) -> io::Result<()> {
-    match asked {
-        4294967295 => list_on(rt, file, copy, findings, pairs, out),
-        4294967294 => judge_on(rt, file, copy, findings, pairs),
-        _ => pair_on(rt, file, asked, copy, pairs),
-    }
-}
-
-fn half(s: &[u8]) -> u16 {
-    (lent::at(s, 0) as u16) * 256 + (lent::at(s, 1) as u16)
+    print_sum(rt, copy)?;
+    print_sum(rt, pairs)?;
+    println!(rt;)
 }
 
 // The number k of a question.
-fn number(question: &[u8], k: u8) -> u32 {
-    let word = lent::part(question, 4 * (k as usize), 4);
-    (half(word) as u32) * 65536 + (half(lent::part(word, 2, 2)) as u32)
+fn number(question: &[u8], k: u32) -> usize {
+    tfm::word_of(question, k) as usize
 }
 
-fn answer_on(
-    rt: &impl Print,
-    file: &[u8],
-    question: &[u8],
-    copy: &mut [u8],
-    findings: &mut [u8],
-    pairs: &mut [u32],
-    out: &mut [u8],
-) -> io::Result<()> {
-    let c = lent::least(number(question, 2) as usize, copy.len());
-    let f = lent::least(number(question, 3) as usize, findings.len());
-    let p = lent::least(number(question, 4) as usize, pairs.len());
-    let t = lent::least(number(question, 5) as usize, out.len());
-    answer_asked(
-        rt,
-        file,
-        number(question, 1),
-        &mut copy[0..c],
-        &mut findings[0..f],
-        &mut pairs[0..p],
-        &mut out[0..t],
-    )
+fn answer_on(rt: &impl Print, file: &[u8], question: &[u8], whole: Buffers) -> io::Result<()> {
+    let Buffers {
+        copy,
+        findings,
+        pairs,
+        out,
+    } = whole;
+    let c = copy.len().min(number(question, 2));
+    let f = findings.len().min(number(question, 3));
+    let p = pairs.len().min(number(question, 4));
+    let o = out.len().min(number(question, 5));
+    let lent = Buffers {
+        copy: &mut copy[..c],
+        findings: &mut findings[..f],
+        pairs: &mut pairs[..p],
+        out: &mut out[..o],
+    };
+    match tfm::word_of(question, 1) {
+        LISTING => list_on(rt, file, lent),
+        VERDICT => judge_on(rt, file, lent),
+        asked => pair_on(rt, file, asked, lent),
+    }
 }
 
 fn answer(rt: &impl Print, file: &[u8], question: &[u8]) -> io::Result<()> {
@@ -205,49 +128,41 @@ fn answer(rt: &impl Print, file: &[u8], question: &[u8]) -> io::Result<()> {
     let mut findings = [170u8; 262144];
     let mut pairs = [170u32; 65800];
     let mut out = [170u8; 600000];
-    answer_on(
-        rt,
-        file,
-        question,
-        &mut copy,
-        &mut findings,
-        &mut pairs,
-        &mut out,
-    )
+    let whole = Buffers {
+        copy: &mut copy,
+        findings: &mut findings,
+        pairs: &mut pairs,
+        out: &mut out,
+    };
+    answer_on(rt, file, question, whole)
 }
 
-// Reads until the buffer is full or the input ends, and returns how many bytes there are.
-fn read_full(input: &mut impl Read, buffer: &mut [u8]) -> io::Result<usize> {
-    let length = buffer.len() as u64;
-    let mut rest = buffer;
-    Ok(io::copy(&mut input.take(length), &mut rest)? as usize)
-}
-
-// The file that follows a question.
+// The answer to a question, of the file that follows it.
 fn answer_from(
     rt: &impl Print,
-    input: &mut impl Read,
+    reader: &mut impl Read,
     question: &[u8],
     buffer: &mut [u8],
 ) -> io::Result<()> {
-    let claimed = lent::least(number(question, 0) as usize, buffer.len());
-    let n = read_full(input, &mut buffer[0..claimed])?;
-    answer(rt, lent::part(buffer, 0, n), question)
+    let claimed = buffer.len().min(number(question, 0));
+    let n = input::read_full(reader, &mut buffer[..claimed])?;
+    answer(rt, &buffer[..n], question)
 }
 
-fn answer_next(rt: &impl Print, input: &mut impl Read, question: &[u8]) -> io::Result<()> {
+fn answer_next(rt: &impl Print, reader: &mut impl Read, question: &[u8]) -> io::Result<()> {
     let mut buffer = [0u8; 131080];
-    answer_from(rt, input, question, &mut buffer)
+    answer_from(rt, reader, question, &mut buffer)
 }
 
-fn answer_all(rt: &impl Print, input: &mut impl Read) -> io::Result<()> {
+fn answer_all(rt: &impl Print, reader: &mut impl Read) -> io::Result<()> {
+    // So many questions at most, since a loop needs an end that the check sees.
     for _ in 0..1000000u32 {
         let mut question = [0u8; 24];
-        let n = read_full(input, &mut question)?;
+        let n = input::read_full(reader, &mut question)?;
         if n < 24 {
             return Ok(());
         }
-        answer_next(rt, input, &question)?;
+        answer_next(rt, reader, &question)?;
     }
     Ok(())
 }

@@ -2,14 +2,15 @@
 #![tactic(auto)]
 
 ghost use Rattle.std.specs.Prelude.{◌≡◌, cond, [], ◌∷◌, ◌+◌, ◌*◌, ◌<◌, ◌≤◌};
-ghost use Rattle.ink.specs.Ink.{digits};
+ghost use Rattle.lent.specs.Write.{lit};
+ghost use Rattle.lent.specs.Pens.{Written};
 ghost use Rattle.decimal.specs.Text as text;
-ghost use Rattle.decimal.specs.Room.{filled, appended, lead};
+ghost use Rattle.decimal.specs.Room.{filled};
 
 mod room;
 
+use lent::Pen;
 pub use room::Decimal;
-use room::{figure, push};
 
 // A word counts parts, of which this many make one: '4000000 in 003.
 const ONE: u32 = 1048576;
@@ -62,62 +63,50 @@ fn nudge(f: u32, delta: u32) -> u32
     }
 }
 
-// 003 §41: the digit of `a` at `unit`, unless all from there up are zeros.
-fn leading(d: Decimal, a: u32, unit: u32) -> Decimal
-    requires { 0 < unit }
-    ensures { result ≡ appended d (lead a unit) }
+// 003 §43: "-" for a negative word, and nothing for any other.
+fn put_sign(pen: &mut Pen, word: u32)
+    ensures { Written pen.old (lit (cond (text.negative word) (45 ∷ []) [])) pen.new }
 {
-    if unit <= a { figure(d, a / unit) } else { d }
-}
-
-// 003 §41: the whole part, at least one digit.
-fn whole_part(d: Decimal, a: u32) -> Decimal
-    requires { a < 10000 }
-    ensures { result ≡ appended d (digits 10 4 a) }
-{
-    let thousands = leading(d, a, 1000);
-    let hundreds = leading(thousands, a, 100);
-    let tens = leading(hundreds, a, 10);
-    figure(tens, a)
+    if negative(word) {
+        pen.put(b'-');
+    }
 }
 
 // 003 §42: the rest, at least one digit. Seven turns are enough: `delta` is then past every `f`.
-fn rest_part(d: Decimal, rest: u32) -> Decimal
+fn put_places(pen: &mut Pen, rest: u32)
     requires { rest < 1048576 }
-    ensures { result ≡ appended d (text.places 7 (10 * rest + 5) 10) }
+    ensures { Written pen.old (lit (text.places 7 (10 * rest + 5) 10)) pen.new }
 {
-    let mut out = d;
     let mut f: u32 = 10 * rest + 5;
     let mut delta: u32 = 10;
     for turn in 0..7u32 {
         let g = nudge(f, delta);
-        out = figure(out, g / ONE);
+        pen.put(b'0' + (g / ONE % 10) as u8);
         f = 10 * (g % ONE);
         delta = delta * 10;
         if f <= delta {
-            return out;
+            return;
         }
     }
-    out
 }
 
-// 003 §43: "-" for a negative word, and nothing for any other.
-fn sign(word: u32) -> Decimal
-    ensures { result ≡ appended (filled []) (cond (text.negative word) (45 ∷ []) []) }
+// The decimal of a word: the text that TFtoPL prints after "R ".
+pub fn put_decimal(pen: &mut Pen, word: u32)
+    ensures { Written pen.old (lit (text.text_of word)) pen.new }
 {
-    let d = Decimal {
-        bytes: [0; 13],
-        len: 0,
-    };
-    if negative(word) { push(d, b'-') } else { d }
+    put_sign(pen, word);
+    ink::put_at_most(pen, whole(word), 4);
+    pen.put(b'.');
+    put_places(pen, rest(word));
 }
 
-// The decimal of a word: the text that TFtoPL prints after "R ", then zeros.
+// The same text by value, then zeros.
 pub fn decimal(word: u32) -> Decimal
     ensures { result ≡ filled (text.text_of word) }
 {
-    let signed = sign(word);
-    let whole = whole_part(signed, whole(word));
-    let pointed = push(whole, b'.');
-    rest_part(pointed, rest(word))
+    let mut bytes = [0; 13];
+    let mut pen = Pen::new(&mut bytes);
+    put_decimal(&mut pen, word);
+    let len = pen.end();
+    Decimal { bytes, len }
 }

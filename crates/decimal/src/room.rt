@@ -1,31 +1,18 @@
-// A decimal text, by value, and a byte more of it.
-ghost use Rattle.std.specs.Prelude.{◌≡◌, ◌+◌, ◌%◌};
-ghost use Rattle.decimal.specs.Room.{pushed};
+// A decimal text by value.
+ghost use Rattle.std.specs.Prelude.{◌≡◌, take};
 
-// A text of at most 13 bytes: `len` of them, then zeros.
-#[derive(Clone, Copy)]
+// A text of at most 13 bytes: `len` of them, then zeros. (C is given both as they stand.)
+#[derive(Clone, Copy, Debug, PartialEq, Eq)]
 pub struct Decimal {
     pub bytes: [u8; 13],
     pub len: usize,
 }
 
-// One byte more, where there is room: a full text stays, so that no caller owes room.
-pub fn push(d: Decimal, b: u8) -> Decimal
-    ensures { result ≡ pushed d b }
-{
-    let n = d.len;
-    let mut bytes = d.bytes;
-    if n < 13 {
-        bytes[n] = b;
-        Decimal { bytes, len: n + 1 }
-    } else {
-        d
+impl Decimal {
+    // The text alone.
+    pub fn text(&self) -> &[u8]
+        ensures { result.now ≡ take self.now.len self.now.bytes }
+    {
+        lent::part(&self.bytes, 0, self.len)
     }
-}
-
-// One digit more: the last of a number.
-pub fn figure(d: Decimal, x: u32) -> Decimal
-    ensures { result ≡ pushed d (48 + x % 10) }
-{
-    push(d, 48 + (x % 10) as u8)
 }

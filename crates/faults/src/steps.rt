@@ -1,95 +1,105 @@
-// Findings 10 to 17: the ligature program. infos and s are the tables char_info and lig_kern, m the marks of the steps.
+// Findings 10 to 17: the ligature program, with the marks of its steps.
 ghost use Rattle.std.specs.Prelude.{◌≡◌};
-ghost use Rattle.faults.specs.Steps.{bad_boundary, bad_label, bad_start, skips_too_far, looked, bad_address, is_step, is_ligature, step_for_missing, ligature_to_missing, bad_kern, odd_code};
+ghost use Rattle.faults.specs.Steps.{bad_boundary, bad_start, skips_too_far, looked, bad_address, is_step, is_ligature, step_for_missing, ligature_to_missing, bad_kern, odd_code};
 
-use tfm::Layout;
+use tfm::Font;
 
 // Finding 10.
-pub fn bad_boundary(s: &[u8], l: Layout) -> bool
-    ensures { result ≡ bad_boundary s.now l }
+#[tactic(auto, unfolding(crate::specs::Steps::bad_boundary))]
+pub fn bad_boundary(font: &Font) -> bool
+    ensures { result ≡ bad_boundary font.now.steps.now font.now.layout }
 {
-    program::has_boundary(s, l) & (l.nl as u32 <= program::boundary_start(s, l))
-}
-
-// The start of word k of char_info is not below nl.
-fn bad_label(infos: &[u8], s: &[u8], l: Layout, k: u32) -> bool
-    ensures { result ≡ bad_label infos.now s.now l k }
-{
-    let info = tfm::char_info(infos, k);
-    (info.tag == 1) & (l.nl as u32 <= program::redirected(s, l, info.remainder as u32))
+    program::has_boundary(font) & (font.layout.nl as u32 <= program::boundary_start(font))
 }
 
 // Finding 11.
-pub fn bad_start(infos: &[u8], s: &[u8], l: Layout, code: u32) -> bool
-    ensures { result ≡ bad_start infos.now s.now l code }
+#[tactic(auto, unfolding(crate::specs::Steps::bad_start, crate::specs::Steps::bad_label))]
+pub fn bad_start(font: &Font, code: u32) -> bool
+    ensures { result ≡ bad_start font.now.infos.now font.now.steps.now font.now.layout code }
 {
-    tfm::in_range(l, code) & bad_label(infos, s, l, lent::minus(code, l.bc as u32))
+    let info = tfm::info_for(font, code);
+    tfm::in_range(font.layout, code)
+        & (info.tag == tfm::HAS_PROGRAM)
+        & (font.layout.nl as u32 <= program::redirected(font, info.remainder as u32))
 }
 
 // Finding 12.
-pub fn skips_too_far(s: &[u8], m: &[u8], l: Layout, i: u32) -> bool
-    ensures { result ≡ skips_too_far s.now m.now l i }
+#[tactic(auto, unfolding(crate::specs::Steps::skips_too_far))]
+pub fn skips_too_far(font: &Font, marks: &[u8], i: u32) -> bool
+    ensures { result ≡ skips_too_far font.now.steps.now marks.now font.now.layout i }
 {
-    (lent::at(m, i as usize) == 2)
-        & (tfm::byte_of(s, i, 0) < 128)
-        & (l.nl as usize <= program::next_step(s, i))
+    (lent::at(marks, i as usize, 0) == program::ACCESSIBLE)
+        & (tfm::byte_of(font.steps, i, 0) < 128)
+        & (font.layout.nl as usize <= program::next_step(font.steps, i))
 }
 
 // Step i is not passed through.
-fn looked(m: &[u8], i: u32) -> bool
-    ensures { result ≡ looked m.now i }
+#[tactic(auto, unfolding(crate::specs::Steps::looked))]
+fn looked(marks: &[u8], i: u32) -> bool
+    ensures { result ≡ looked marks.now i }
 {
-    lent::at(m, i as usize) != 1
+    lent::at(marks, i as usize, 0) != program::PASSED
 }
 
 // Finding 13.
-pub fn bad_address(s: &[u8], m: &[u8], l: Layout, i: u32) -> bool
-    ensures { result ≡ bad_address s.now m.now l i }
+#[tactic(auto, unfolding(crate::specs::Steps::bad_address))]
+pub fn bad_address(font: &Font, marks: &[u8], i: u32) -> bool
+    ensures { result ≡ bad_address font.now.steps.now marks.now font.now.layout i }
 {
-    looked(m, i) & (128 < tfm::byte_of(s, i, 0)) & (l.nl as u32 <= program::address(s, i))
+    looked(marks, i)
+        & (128 < tfm::byte_of(font.steps, i, 0))
+        & (font.layout.nl as u32 <= program::address(font.steps, i))
 }
 
 // A kern or a ligature that is not passed through.
-fn is_step(s: &[u8], m: &[u8], i: u32) -> bool
-    ensures { result ≡ is_step s.now m.now i }
+#[tactic(auto, unfolding(crate::specs::Steps::is_step))]
+fn is_step(font: &Font, marks: &[u8], i: u32) -> bool
+    ensures { result ≡ is_step font.now.steps.now marks.now i }
 {
-    looked(m, i) & (tfm::byte_of(s, i, 0) <= 128)
+    looked(marks, i) & (tfm::byte_of(font.steps, i, 0) <= 128)
 }
 
-fn is_ligature(s: &[u8], m: &[u8], i: u32) -> bool
-    ensures { result ≡ is_ligature s.now m.now i }
+#[tactic(auto, unfolding(crate::specs::Steps::is_ligature))]
+fn is_ligature(font: &Font, marks: &[u8], i: u32) -> bool
+    ensures { result ≡ is_ligature font.now.steps.now marks.now i }
 {
-    is_step(s, m, i) & (tfm::byte_of(s, i, 2) < 128)
+    is_step(font, marks, i) & (tfm::byte_of(font.steps, i, 2) < 128)
 }
 
 // Finding 14.
-pub fn step_for_missing(infos: &[u8], s: &[u8], m: &[u8], l: Layout, i: u32) -> bool
-    ensures { result ≡ step_for_missing infos.now s.now m.now l i }
+#[tactic(auto, unfolding(crate::specs::Steps::step_for_missing))]
+pub fn step_for_missing(font: &Font, marks: &[u8], i: u32) -> bool
+    ensures { result ≡ step_for_missing font.now.infos.now font.now.steps.now marks.now font.now.layout i }
 {
-    let right = tfm::byte_of(s, i, 1) as u32;
-    is_step(s, m, i) & !tfm::exists(infos, l, right) & (right != program::boundary_char(s))
+    let right = tfm::byte_of(font.steps, i, 1);
+    is_step(font, marks, i)
+        & !tfm::exists(font, right as u32)
+        & (program::boundary_char(font.steps) != Some(right))
 }
 
 // Finding 15.
-pub fn ligature_to_missing(infos: &[u8], s: &[u8], m: &[u8], l: Layout, i: u32) -> bool
-    ensures { result ≡ ligature_to_missing infos.now s.now m.now l i }
+#[tactic(auto, unfolding(crate::specs::Steps::ligature_to_missing))]
+pub fn ligature_to_missing(font: &Font, marks: &[u8], i: u32) -> bool
+    ensures { result ≡ ligature_to_missing font.now.infos.now font.now.steps.now marks.now font.now.layout i }
 {
-    is_ligature(s, m, i) & !tfm::exists(infos, l, tfm::byte_of(s, i, 3) as u32)
+    is_ligature(font, marks, i) & !tfm::exists(font, tfm::byte_of(font.steps, i, 3) as u32)
 }
 
 // Finding 16.
-pub fn bad_kern(s: &[u8], m: &[u8], l: Layout, i: u32) -> bool
-    ensures { result ≡ bad_kern s.now m.now l i }
+#[tactic(auto, unfolding(crate::specs::Steps::bad_kern))]
+pub fn bad_kern(font: &Font, marks: &[u8], i: u32) -> bool
+    ensures { result ≡ bad_kern font.now.steps.now marks.now font.now.layout i }
 {
-    is_step(s, m, i)
-        & (128 <= tfm::byte_of(s, i, 2))
-        & (l.nk as u32 <= lent::minus(program::address(s, i), 32768))
+    is_step(font, marks, i)
+        & (128 <= tfm::byte_of(font.steps, i, 2))
+        & (font.layout.nk as u32 <= program::address(font.steps, i).saturating_sub(32768))
 }
 
 // Finding 17.
-pub fn odd_code(s: &[u8], m: &[u8], i: u32) -> bool
-    ensures { result ≡ odd_code s.now m.now i }
+#[tactic(auto, unfolding(crate::specs::Steps::odd_code))]
+pub fn odd_code(font: &Font, marks: &[u8], i: u32) -> bool
+    ensures { result ≡ odd_code font.now.steps.now marks.now i }
 {
-    let code = tfm::byte_of(s, i, 2);
-    is_ligature(s, m, i) & ((code == 4) | ((7 < code) & (code != 11)))
+    let code = tfm::byte_of(font.steps, i, 2);
+    is_ligature(font, marks, i) & ((code == 4) | ((7 < code) & (code != 11)))
 }

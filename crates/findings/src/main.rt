@@ -2,100 +2,54 @@
 // numbers, and then a line for each byte that the mended copy changes, with its place, the old byte and the new. (The loop, 18, is not looked for.)
 #![tactic(auto)]
 
+use lent::Pen;
 use std::io;
-use std::io::Read;
-use tfm::Layout;
+use tfm::Font;
 
-fn print(rt: &impl Print, text: &[u8]) -> io::Result<()> {
-    rt.write_all(text)
+fn print_record(rt: &impl Print, record: &[u8]) -> io::Result<()> {
+    let tag = lent::at(record, 0, 0);
+    let first = input::half(record, 3);
+    let second = input::half(record, 5);
+    println!(rt; "{tag} {first} {second}")
 }
 
-fn print_number(rt: &impl Print, n: u32) -> io::Result<()> {
-    print!(rt; "{n}")
-}
-
-fn print_three(rt: &impl Print, a: u32, b: u32, c: u32) -> io::Result<()> {
-    print_number(rt, a)?;
-    print(rt, b" ")?;
-    print_number(rt, b)?;
-    print(rt, b" ")?;
-    print_number(rt, c)?;
-    print(rt, b"\n")
-}
-
-fn half(records: &[u8], at: usize) -> u32 {
-    (lent::at(records, at) as u32) * 256 + (lent::at(lent::part(records, at, 2), 1) as u32)
-}
-
-fn print_record(rt: &impl Print, records: &[u8], i: u32) -> io::Result<()> {
-    let at = 7 * (i as usize);
-    print_three(
-        rt,
-        lent::at(records, at) as u32,
-        half(records, at + 3),
-        half(records, at + 5),
-    )
-}
-
-fn print_records(rt: &impl Print, records: &[u8], count: u32) -> io::Result<()> {
-    for i in 0..count {
-        print_record(rt, records, i)?;
-    }
-    Ok(())
-}
-
-fn print_change(rt: &impl Print, file: &[u8], copy: &[u8], i: u32) -> io::Result<()> {
-    let old = lent::at(file, i as usize);
-    let new = lent::at(copy, i as usize);
-    if old != new {
-        print(rt, b"byte ")?;
-        print_three(rt, i, old as u32, new as u32)?;
-    }
-    Ok(())
-}
-
-fn print_changes(rt: &impl Print, file: &[u8], copy: &[u8], bytes: u32) -> io::Result<()> {
-    for i in 0..bytes {
-        print_change(rt, file, copy, i)?;
-    }
-    Ok(())
-}
-
-fn print_findings(rt: &impl Print, file: &[u8], l: Layout, m: &[u8]) -> io::Result<()> {
+fn print_findings(rt: &impl Print, file: &[u8], font: &Font, marks: &[u8]) -> io::Result<()> {
     let mut records = [0u8; 262144];
-    let infos = tfm::table(file, l, 1);
-    let steps = tfm::table(file, l, 6);
-    let end = mend::findings::put_findings(&mut records, 0, file, infos, steps, m, l, 1, 23);
-    print_records(rt, &records, (lent::least(end, 262144) / 7) as u32)
+    let mut pen = Pen::new(&mut records);
+    mend::findings::put_findings(&mut pen, file, font, marks, 1, 23);
+    for record in pen.text().chunks_exact(7) {
+        print_record(rt, record)?;
+    }
+    Ok(())
 }
 
-fn print_mends(rt: &impl Print, file: &[u8], l: Layout, m: &[u8]) -> io::Result<()> {
+// The bytes of the file, beside those of its copy.
+fn print_changes(rt: &impl Print, file: &[u8], copy: &[u8]) -> io::Result<()> {
+    for (place, (old, new)) in file.iter().zip(copy).enumerate() {
+        if old != new {
+            println!(rt; "byte {place} {old} {new}")?;
+        }
+    }
+    Ok(())
+}
+
+fn print_mends(rt: &impl Print, file: &[u8], font: &Font, marks: &[u8]) -> io::Result<()> {
     let mut copy = [0u8; 131072];
-    let infos = tfm::table(file, l, 1);
-    let steps = tfm::table(file, l, 6);
-    mend::copy::put_copy(&mut copy, 0, file, infos, steps, m, l);
-    print_changes(rt, file, &copy, 4 * (l.lf as u32))
-}
-
-// Reads until the buffer is full or the input ends, and returns how many bytes there are.
-fn read_full(input: &mut impl Read, buffer: &mut [u8]) -> io::Result<usize> {
-    let length = buffer.len() as u64;
-    let mut rest = buffer;
-    Ok(io::copy(&mut input.take(length), &mut rest)? as usize)
+    let mut pen = Pen::new(&mut copy);
+    mend::copy::put_copy(&mut pen, file, font, marks);
+    print_changes(rt, file, pen.text())
 }
 
 fn main(rt: HostRuntime) -> io::Result<()> {
     let mut buffer = [0u8; 262144];
-    let n = read_full(&mut rt.stdin(), &mut buffer)?;
-    let file = lent::part(&buffer, 0, n);
-    let l = tfm::read_layout(file);
-    let number = tfm::number(file, l, 0);
-    if number != 0 {
-        print(&rt, b"REFUSED ")?;
-        print_number(&rt, number as u32)?;
-        return print(&rt, b"\n");
+    let n = input::read_full(&mut rt.stdin(), &mut buffer)?;
+    let file = &buffer[..n];
+    let layout = tfm::read_layout(file);
+    if let Err(refusal) = tfm::check(file, layout) {
+        return println!(rt; "REFUSED {}", refusal.number());
     }
-    let m = program::marks(tfm::table(file, l, 1), tfm::table(file, l, 6), l);
-    print_findings(&rt, file, l, &m)?;
-    print_mends(&rt, file, l, &m)
+    let font = tfm::tables_of(file, layout);
+    let marks = program::marks(&font);
+    print_findings(&rt, file, &font, &marks)?;
+    print_mends(&rt, file, &font, &marks)
 }

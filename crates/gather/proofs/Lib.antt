@@ -1,5 +1,6 @@
 -- The laws of `gather` that belong to no one function
 pub mod Walks
+mod Enters
 mod Lists
 mod Bridge
 mod Ends

@@ -1,5 +1,5 @@
 -- The entries of keys in order are a program, which says at each key what its code says; and rows of entries are entries in order.
-use Prim.Native.Nat.{ℕ, zero, suc, ◌+◌, ◌-◌, ◌*◌, ◌/◌, ◌%◌, ◌<◌, ◌≤◌}
+use Prim.Native.Nat.{ℕ, zero, suc, ◌+◌, ◌*◌, ◌/◌, ◌%◌, ◌<◌, ◌≤◌}
 use native.Mathlib.Omega.{arith}
 use native.Mathlib.Nat.{add-zero, add-suc}
 use native.Mathlib.Decide.{dec_lt, ℕ_discrete}
@@ -9,7 +9,7 @@ use lib.ListN.{length, get_or, length-append, get_or-append}
 use lib.Seq.{get_or_at}
 use borrow.Author.Tests.{eq-eqb, ne_eqb}
 use Rattle.lent.specs.Fold.{iterate}
-use Rattle.lent.specs.Write.{Pen, Text, byte, each, run, flat, Wrote}
+use Rattle.lent.specs.Write.{Pen, Text, each, run, flat, Wrote}
 use Rattle.settle.specs.Settle.{Step, stop, classed, step_in, key_of, st_of, val_of, Program}
 use Rattle.gather.specs.Pairs.{cell}
 
@@ -21,12 +21,6 @@ step_as (suc v) = classed (v / 256 % 8) (v % 256)
 -- the entries of the keys below n, whose codes f says
 abbrev pub entries : (ℕ → ℕ) → ℕ → List ℕ
 entries f n = flat (each n (λ k. cell k (f k)))
-
--- a code that says an entry
-pub cell_some : (key v : ℕ) → (v ≡ 0 → ⊥) → cell key v ≡ byte (key * 2048 + (v - 1))
-unfolding cell
-cell_some key zero h = absurd (h refl)
-cell_some key (suc v) h = let e : suc v - 1 ≡ v = omega arith in rw e
 
 -- turns that are the same, as they are written and as what was written
 run_same : (f g : ℕ → Text) (n : ℕ) (p : Pen) → ((i : ℕ) → i < n → f i ≡ g i) → run p (each n f) ≡ run p (each n g)

@@ -1,39 +1,48 @@
 -- From the rows to the room, its outcomes, the smallest loop and one pair.
-use Prim.Native.Nat.{ℕ, zero, suc, ◌+◌, ◌*◌, ◌/◌, ◌%◌, ◌<◌, ◌≤◌}
+use Prim.Native.Nat.{ℕ, zero, suc, ◌+◌, ◌*◌, ◌<◌, ◌≤◌}
 use native.Mathlib.Nat.{le_refl}
 use native.Mathlib.Omega.{arith}
 use native.Mathlib.Decide.{dec_lt}
 use mathlib.Core.Path.{◌≡◌, refl, sym, ap, ◌∙◌}
 use mathlib.Core.Bool.{Bool, true, false}
 use mathlib.Core.List.{List}
-use lib.ListN.{length, get_or, take, replicate, length-replicate, get_or-eq_default}
-use lib.Seq.{take_at, get_or-take, length-take-le}
+use Rattle.std.proofs.Common.{Option, Some, None, Ok, IfSome}
+use Rattle.std.specs.Option.{MatchOption, IsSomeAnd}
+use lib.ListN.{length, get_or, take, replicate, get_or-map}
+use lib.Seq.{take_at, length-take-le}
 use borrow.Author.Tests.{le-ltb}
 use Rattle.lent.specs.Fold.{iterate}
-use Rattle.lent.specs.Write.{Pen, pen, Text, none, each, run, flat, Wrote, Ended, fitted, overflowed}
+use Rattle.lent.specs.Write.{Pen, pen, Text, none, byte, each, run, flat, Wrote, Ended, fitted, overflowed}
 use Rattle.lent.proofs.Ends.{ended, keeps}
 use Rattle.tfm.specs.declared.Layout.{Layout}
 use Rattle.program.specs.Steps.{program_of}
-use Rattle.settle.specs.Settle.{Step, Settles, Loops, step_of, key_of, Program, Settled, EndedFirst, Told}
+use Rattle.settle.specs.Settle.{Step, Settles, step_of, key_of, left_of, right_of, Program, Settled, EndedFirst, Told, outcome_number}
 use Rattle.gather.specs.Steps.{step_from, program_steps}
-use Rattle.gather.specs.Answers.{count, SmallestLoop, InRange}
-use Rattle.gather.specs.Pairs.{code_at, code_of, Walked, cell, row_in, row, pairs_text, Outcomes, FirstLoop}
+use Rattle.gather.specs.Answers.{count, SmallestLoop, SmallestAs, InRange, PairAs}
+use Rattle.gather.specs.Entries.{place_of, Entered}
+use Rattle.gather.specs.declared.entries.Entries.{Entries}
+use Rattle.gather.specs.declared.Pair.{Pair}
+use Rattle.gather.specs.Pairs.{code_at, code_of, held_code, codes, Walked, cell, row_in, row, pairs_text, Outcomes, FirstLoop, FirstPair}
 use Rattle.gather.proofs.Lists.{same_turns}
-use Rattle.gather.proofs.Walks.{walked_zeros}
-use Rattle.gather.proofs.Bridge.{code_small, pairs_listed, pairs_step, pairs_count}
+use Rattle.gather.proofs.Walks.{walked_none}
+use Rattle.gather.proofs.Bridge.{pairs_listed, pairs_step, pairs_count}
 use Rattle.gather.proofs.Ends.{Agree, agree_in, agrees, agrees_loops, same_key, settles_unless, loops_at, in_order}
 
 -- a row: the table has the codes of its left code
-module _ (infos s : List ℕ) (l : Layout) (x : ℕ) {start : ℕ} {u : List ℕ} (e : start ≡ program_of infos s l x) (w : Walked s l.nl start (replicate 256 0) u) where
-  pub row_small : ((k : ℕ) → get_or s k 0 < 256) → (y : ℕ) → get_or u y 0 ≤ 1024
-  row_small bytes y = elim (dec_lt y 256) [
-    | yes h ↦ rw (walked_zeros w y h) (code_small s bytes l.nl _)
-    | no h ↦ rw (get_or-eq_default u 0 {n = y} (omega (arith, w.long, length-replicate {A = ℕ} 256 0))) (omega arith)
-  ]
+pub row_cells : (infos s : List ℕ) (l : Layout) (x : ℕ) {start : ℕ} (u : List (Option ℕ)) {p q : Entries} → start ≡ program_of infos s l x
+    → Walked s l.nl start (codes (replicate 256 None)) (codes u) → Entered p (each 256 (row_in x (codes u))) q → Entered p (row infos s l x) q
+unfolding code_of
+row_cells infos s l x u e w r =
+    record { same = r.same; wrote = same_turns r.wrote (λ y h. ap (cell (x * 256 + y)) (walked_none {n = 256} u w y h ∙ rw e)) }
 
-  pub row_cells : {p q : Pen} → Wrote p (each 256 (row_in x u)) q → Wrote p (row infos s l x) q
-  unfolding code_of
-  row_cells r = same_turns r (λ y h. ap (cell (x * 256 + y)) (walked_zeros w y h ∙ rw e))
+-- the turn of a right code with a step, and of one without
+pub some_cell : (x y v : ℕ) (t : List (Option ℕ)) → get_or t y None ≡ Some v → row_in x (codes t) y ≡ byte ((x * 256 + y) * 2048 + v)
+unfolding cell
+some_cell x y v t e = rw (get_or-map held_code t y None, e)
+
+pub no_cell : (x y : ℕ) (t : List (Option ℕ)) → get_or t y None ≡ None → row_in x (codes t) y ≡ none
+unfolding cell
+no_cell x y t e = rw (get_or-map held_code t y None, e)
 
 -- a left code with no program has no entries
 no_step_lem : (s : List ℕ) (nl f i y : ℕ) → nl ≤ i → step_from s nl f i y ≡ nl
@@ -51,87 +60,85 @@ unfolding iterate run
 no_cells p zero f h = refl
 no_cells p (suc n) f h = rw (h n) (no_cells p n f h)
 
-pub row_none : {p : Pen} (infos s : List ℕ) (l : Layout) (x : ℕ) → l.nl ≤ program_of infos s l x → Wrote p (row infos s l x) p
+pub row_none : {p : Entries} (infos s : List ℕ) (l : Layout) (x : ℕ) → l.nl ≤ program_of infos s l x → Entered p (row infos s l x) p
 unfolding run cell
 row_none {p} infos s l x h =
-    record { is = sym (no_cells p 256 _ (λ (y : ℕ). ap (cell (x * 256 + y)) (no_code infos s l x y h))) }
+    record { same = refl; wrote = record { is = sym (no_cells (place_of p) 256 _ (λ (y : ℕ). ap (cell (x * 256 + y)) (no_code infos s l x y h))) } }
 
 -- the room once it is settled
 pub outcomes : (infos s : List ℕ) (l : Layout) → ((k : ℕ) → get_or s k 0 < 256) → {a m b : List ℕ} {n : ℕ} {r : Bool}
-    → Wrote (pen a 0) (pairs_text infos s l) (pen m n) → EndedFirst m n r b → Outcomes (program_steps infos s l) (flat (pairs_text infos s l)) a n b
-outcomes infos s l bytes {a} {m} {b} {n} {r} w e =
+    → Wrote (pen a 0) (pairs_text infos s l) (pen m n) → n ≤ length m → EndedFirst m n r b → Outcomes (program_steps infos s l) (flat (pairs_text infos s l)) a n b
+outcomes infos s l bytes {a} {m} {b} {n} {r} w h e =
     record {
-      over = (go (ended w)).0;
-      enough = (go (ended w)).1;
+      fits = omega (arith, keeps w);
+      enough = (go (ended w)).0;
       program = (pairs_listed infos s l bytes).all;
       keys = (pairs_listed infos s l bytes).below;
       steps = pairs_step infos s l bytes;
-      settled = (go (ended w)).2;
+      settled = (go (ended w)).1;
     }
   where
-    on : (t : Bool) → r ≡ t → n ≤ length m → take n m ≡ flat (pairs_text infos s l) → Settled (flat (pairs_text infos s l)) (take n b)
-    on true q h f = rw f at (e.settled q)
-    on false q h f = absurd (e.judged.fails q (h, rw f (pairs_listed infos s l bytes).all))
+    on : (t : Bool) → r ≡ t → take n m ≡ flat (pairs_text infos s l) → Settled (flat (pairs_text infos s l)) (take n b)
+    on true q f = rw f at (e.settled q)
+    on false q f = absurd (e.judged.fails q (h, rw f (pairs_listed infos s l bytes).all))
 
-    go : Ended (pairs_text infos s l) a m n
-        → (length a < n → length a < count (program_steps infos s l)) × (n ≤ length a → count (program_steps infos s l) ≤ length a)
-        × (n ≤ length a → Settled (flat (pairs_text infos s l)) (take n b))
-    go (fitted h p q) = (
-      λ k. absurd (omega arith),
-      λ k. omega (arith, pairs_count infos s l bytes),
-      λ k. on r refl (omega (arith, keeps w)) (rw (q, p) (take_at (flat (pairs_text infos s l)) _ _ refl)),
-    )
-    go (overflowed h p q) = (λ k. omega (arith, pairs_count infos s l bytes), λ k. absurd (omega arith), λ k. absurd (omega arith))
+    go : Ended (pairs_text infos s l) a m n → (count (program_steps infos s l) ≤ length a) × Settled (flat (pairs_text infos s l)) (take n b)
+    go (fitted f p q) =
+        (omega (arith, pairs_count infos s l bytes), on r refl (rw (q, p) (take_at (flat (pairs_text infos s l)) _ _ refl)))
+    go (overflowed f p q) = absurd (omega arith)
 
--- and once it is wiped
-pub wiped : {c : List ℕ} {m n : ℕ} → c ≡ replicate m 0 → m ≡ n → c ≡ replicate n 0
-wiped e same = e ∙ ap (λ (k : ℕ). replicate k 0) same
+-- and where its entries do not fit
+pub over_few : (infos s : List ℕ) (l : Layout) → ((k : ℕ) → get_or s k 0 < 256) → {a m : List ℕ} {n : ℕ}
+    → Wrote (pen a 0) (pairs_text infos s l) (pen m n) → length m < n → length a < count (program_steps infos s l)
+over_few infos s l bytes {a} {m} {n} w h = go (ended w)
+  where
+    go : Ended (pairs_text infos s l) a m n → length a < count (program_steps infos s l)
+    go (fitted f p q) = absurd (omega (arith, keeps w))
+    go (overflowed f p q) = omega (arith, pairs_count infos s l bytes)
 
 -- what the settled room says
 module _ {S : ℕ → ℕ → Step} {P a b : List ℕ} {n : ℕ} (o : Outcomes S P a n b) (same : length b ≡ length a) where
-  pub too_few : length b < n → length a < count S
-  too_few h = o.over (omega arith)
+  long : length P ≡ n
+  long = sym o.settled.long ∙ length-take-le n b (omega (arith, o.fits))
 
-  module _ (h : n ≤ length b) where
-    room : Settled P (take n b)
-    room = o.settled (omega arith)
+  agree : Agree (step_of P) S
+  agree = agree_in P o.steps
 
-    long : length P ≡ n
-    long = sym room.long ∙ length-take-le n b h
+  -- the smallest pair that loops
+  module _ {i : ℕ} (f : FirstLoop (take n b) i) where
+    settles_below : (x y : ℕ) → y < 256 → ((j : ℕ) → j < length P → key_of (get_or P j 0) ≡ x * 256 + y → j < i) → (w : ℕ) × Settles S x y w
+    settles_below x y h g =
+        let w = settles_unless o.settled x y h (λ j k e. f.before j (g j k e)) in
+        (w.0, agrees agree h w.1)
 
-    agree : Agree (step_of P) S
-    agree = agree_in P o.steps
+    none_loops : n ≤ i → (count S ≤ length a) × ((x y : ℕ) → y < 256 → (w : ℕ) × Settles S x y w)
+    none_loops k = (o.enough, λ x y h. settles_below x y h (λ j g e. omega (arith, long)))
 
-    enough : count S ≤ length a
-    enough = o.enough (omega arith)
+    one_loops : i < n → {x y : ℕ} → x ≡ left_of (get_or (take n b) i 0) → y ≡ right_of (get_or (take n b) i 0) → (count S ≤ length a) × SmallestLoop S x y
+    one_loops k {x} {y} p q =
+        let g : i < length P = omega (arith, long) in
+        let c : x * 256 + y ≡ key_of (get_or P i 0) = omega (arith, same_key o.settled i g) in
+        let r : y < 256 = omega arith in (
+          o.enough,
+          record {
+            left_code = omega (arith, o.keys i g);
+            right_code = r;
+            loops = agrees_loops agree r (loops_at o.settled x y i r g (sym c) (f.here (omega (arith, o.settled.long))));
+            smallest = λ u v h m. settles_below u v h (λ j e t. elim (dec_lt j i) [ yes d ↦ d | no d ↦ absurd (omega (arith, in_order o.program j i e (omega arith))) ]);
+          },
+        )
 
-    -- the smallest pair that loops
-    module _ {i : ℕ} (f : FirstLoop (take n b) i) where
-      settles_below : (x y : ℕ) → y < 256 → ((j : ℕ) → j < length P → key_of (get_or P j 0) ≡ x * 256 + y → j < i) → (w : ℕ) × Settles S x y w
-      settles_below x y h g =
-          let w = settles_unless room x y h (λ j k e. f.before j (g j k e)) in
-          (w.0, agrees agree h w.1)
+  pub smallest_told : (r : Option Pair) → FirstPair (take n b) r → SmallestAs S (length a) (Ok r)
+  smallest_told None f = none_loops f (omega (arith, length-take-le n b (omega (arith, o.fits))))
+  smallest_told (Some pair) f = one_loops f.2 (omega (arith, length-take-le n b (omega (arith, o.fits)))) f.3 f.4
 
-      pub told_none : n ≤ i → (count S ≤ length a) × ((x y : ℕ) → y < 256 → (w : ℕ) × Settles S x y w)
-      told_none k = (enough, λ x y h. settles_below x y h (λ j g e. omega (arith, long)))
+  -- one pair
+  pub pair_told : {x y : ℕ} → InRange x y → (r : Option ℕ) → ((Q : List ℕ) → Program Q → Settled Q (take n b) → Told (step_of Q) x y (outcome_number r)) → IfSome r (λ w. w < 256) → PairAs S (length a) x y (Ok r)
+  pair_told range None t few = (range, o.enough, agrees_loops agree range.1 ((t P o.program o.settled).loops refl))
+  pair_told range (Some w) t few = (range, o.enough, agrees agree range.1 ((t P o.program o.settled).settles (λ e. omega arith)))
 
-      pub told_loop : i < n → {e : ℕ} → e ≡ get_or b i 0 → (count S ≤ length a) × SmallestLoop S (e / 2048 / 256) (e / 2048 % 256)
-      told_loop k {e} q =
-          let g : i < length P = omega (arith, long) in
-          let c : e / 2048 ≡ key_of (get_or P i 0) = ap key_of (q ∙ sym (get_or-take n b i 0 k)) ∙ same_key room i g in (
-            enough,
-            record {
-              left_code = omega (arith, o.keys i g);
-              right_code = omega arith;
-              loops = agrees_loops agree (omega arith) (loops_at room (e / 2048 / 256) (e / 2048 % 256) i (omega arith) g (omega arith) (f.here (omega (arith, room.long))));
-              smallest = λ x y h m. settles_below x y h (λ j r t. elim (dec_lt j i) [ yes d ↦ d | no d ↦ absurd (omega (arith, in_order o.program j i r (omega arith))) ]);
-            },
-          )
-
-    -- one pair
-    module _ {x y w : ℕ} (range : InRange x y) (t : (Q : List ℕ) → Program Q → Settled Q (take n b) → Told (step_of Q) x y w) where
-      pub told_leaves : (w ≡ 257 → ⊥) → InRange x y × (count S ≤ length a) × Settles S x y w
-      told_leaves k = (range, enough, agrees agree range.1 ((t P o.program room).settles k))
-
-      pub told_loops : w ≡ 257 → InRange x y × (count S ≤ length a) × Loops S x y
-      told_loops e = (range, enough, agrees_loops agree range.1 ((t P o.program room).loops e))
+-- a code as a wider number
+pub mapped : (o r : Option ℕ) {P : ℕ → ℕ → Type 0} → MatchOption o (r ≡ None) (λ x. IsSomeAnd r (P x)) → ((x y : ℕ) → P x y → y ≡ x) → r ≡ o
+mapped None r h f = h
+mapped (Some x) None h f = absurd h
+mapped (Some x) (Some y) h f = ap Some (f x y h)

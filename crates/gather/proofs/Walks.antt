@@ -4,15 +4,17 @@ use native.Mathlib.Omega.{arith}
 use native.Mathlib.Decide.{dec_lt, ℕ_discrete}
 use mathlib.Core.Path.{◌≡◌, refl, sym, ap, ◌∙◌}
 use mathlib.Core.Bool.{Bool, true, false, cond}
-use mathlib.Core.List.{List}
-use lib.Dec.{eqb, eqb-suc-zero}
-use lib.ListN.{length, get_or, set, replicate, length-set, length-replicate, get_or-replicate}
+use mathlib.Core.List.{List, ◌∷◌}
+use Rattle.std.proofs.Common.{Option, Some, None}
+use Rattle.std.specs.Option.{option_or}
+use Rattle.std.proofs.lemmas.List.{map-set}
+use lib.ListN.{length, get_or, set, replicate, length-set, length-replicate, get_or-replicate, get_or-map}
 use lib.Seq.{get_or-set_same, get_or-set_other}
 use borrow.Author.Tests.{lt-ltb, le-ltb, le-leb, lt-leb, eq-eqb, ne_eqb}
 use Rattle.tfm.specs.Characters.{byte_of}
 use Rattle.program.specs.Steps.{next_of}
 use Rattle.gather.specs.Steps.{hit, next, step_from}
-use Rattle.gather.specs.Pairs.{packed_at, code_at, code_hit, code_from, keep, Noted, Walked}
+use Rattle.gather.specs.Pairs.{packed_at, code_at, code_hit, code_from, held_code, codes, keep, Noted, Walked}
 
 keep_none : (t : ℕ) → keep t 0 ≡ t
 unfolding keep
@@ -23,12 +25,6 @@ keep_keep : (t v w : ℕ) → keep (keep t v) w ≡ keep t (keep v w)
 unfolding keep
 keep_keep zero v w = refl
 keep_keep (suc t) v w = refl
-
--- as the code tests it
-pub keep_test : (t v : ℕ) → cond (eqb t 0) v t ≡ keep t v
-unfolding keep
-keep_test zero v = refl
-keep_test (suc t) v = rw (eqb-suc-zero t)
 
 -- the next step is a later one
 pub next_later : (s : List ℕ) (nl i : ℕ) → i < nl → i < next s nl i
@@ -78,9 +74,6 @@ pub record On (s : List ℕ) (nl start : ℕ) (t u : List ℕ) (i : ℕ) : Type 
   pub long : length u ≡ length t
   pub cell : (y : ℕ) → y < length t → keep (get_or u y 0) (code_from s nl nl i y) ≡ keep (get_or t y 0) (code_from s nl nl start y)
 
-pub on_start : (s : List ℕ) (nl i : ℕ) (t : List ℕ) → On s nl i t t i
-on_start s nl i t = record { long = refl; cell = λ y h. refl }
-
 pub on_more : {s : List ℕ} {nl start i j : ℕ} {t u v : List ℕ} → On s nl start t u i → i < nl → j ≡ next s nl i → Noted s i u v → On s nl start t v j
 on_more {s} {nl} {start} {i} {j} {t} {u} {v} o h e n = record {
   long = n.long ∙ o.long;
@@ -113,6 +106,24 @@ noted_at s i t u b e h q = record {
 }
 
 -- in a table of zeros
-pub walked_zeros : {s : List ℕ} {nl i n : ℕ} {u : List ℕ} → Walked s nl i (replicate n 0) u → (y : ℕ) → y < n → get_or u y 0 ≡ code_from s nl nl i y
+walked_zeros : {s : List ℕ} {nl i n : ℕ} {u : List ℕ} → Walked s nl i (replicate n 0) u → (y : ℕ) → y < n → get_or u y 0 ≡ code_from s nl nl i y
 unfolding keep
 walked_zeros {n = n} w y h = w.cell y (omega (arith, length-replicate {A = ℕ} n 0)) ∙ rw (get_or-replicate {A = ℕ} n y 0 0 h)
+
+-- the table of what the steps say, as codes
+codes_none : (n : ℕ) → codes (replicate n None) ≡ replicate n 0
+codes_none zero = refl
+codes_none (suc n) = ap (λ (t : List ℕ). 0 ∷ t) (codes_none n)
+
+held_or : (o : Option ℕ) (v : ℕ) → held_code (option_or o (Some v)) ≡ keep (held_code o) (suc v)
+unfolding keep
+held_or None v = refl
+held_or (Some w) v = refl
+
+pub held_first : (t : List (Option ℕ)) (y v : ℕ) → codes (set t y (option_or (get_or t y None) (Some v))) ≡ set (codes t) y (keep (get_or (codes t) y 0) (suc v))
+held_first t y v =
+    map-set held_code t y (option_or (get_or t y None) (Some v)) ∙ rw (get_or-map held_code t y None) (ap (set (codes t) y) (held_or (get_or t y None) v))
+
+-- in a table of nothing
+pub walked_none : {s : List ℕ} {nl i n : ℕ} (u : List (Option ℕ)) → Walked s nl i (codes (replicate n None)) (codes u) → (y : ℕ) → y < n → get_or (codes u) y 0 ≡ code_from s nl nl i y
+walked_none {n = n} u w = walked_zeros {n = n} (rw (codes_none n) at w)

@@ -1,10 +1,9 @@
 -- What the public functions answer, for a program S and a room of n entries.
-use Rattle.std.specs.Prelude.{ℕ, zero, suc, ◌+◌, ◌*◌, ◌/◌, ◌%◌, ◌<◌, ◌≤◌, List, length, replicate}
+use Rattle.std.specs.Prelude.{◌≡◌, Option, Some, None, Result, Ok, Err, ℕ, zero, suc, ◌+◌, ◌*◌, ◌/◌, ◌%◌, ◌<◌, ◌≤◌, List, length, replicate}
 use Rattle.settle.specs.Settle.{Step, stop, give, left, right, both, Settles, Loops}
-use Rattle.gather.specs.declared.Smallest.{Smallest}
-use Rattle.gather.specs.declared.Smallest.TheVariants.{TooFew, Loop, NoLoop}
-use Rattle.gather.specs.declared.PairOutcome.{PairOutcome}
-use Rattle.gather.specs.declared.PairOutcome.TheVariants.{OutOfRange, TooFew as Few, Leaves, Loops as Looping}
+use Rattle.tfm.specs.declared.refusal.Refusal.{Refusal}
+use Rattle.tfm.specs.declared.refusal.Refusal.TheVariants.{FewPairs, OutOfRange}
+use Rattle.gather.specs.declared.Pair.{Pair}
 
 -- how many pairs have a step: the entries that the room needs
 unfoldable pub has : Step → ℕ
@@ -32,24 +31,31 @@ pub record SmallestLoop (S : ℕ → ℕ → Step) (x y : ℕ) : Type 0 where
   pub loops : Loops S x y
   pub smallest : SettleBelow S (x * 256 + y)
 
-abbrev pub SmallestAs : (ℕ → ℕ → Step) → ℕ → Smallest → Type 0
-SmallestAs S n TooFew = n < count S
-SmallestAs S n (Loop x y) = (count S ≤ n) × SmallestLoop S x y
-SmallestAs S n NoLoop = (count S ≤ n) × ((x y : ℕ) → y < 256 → (w : ℕ) × Settles S x y w)
+-- number 14, the smallest pair that loops, or that none does
+abbrev pub SmallestAs : (ℕ → ℕ → Step) → ℕ → Result (Option Pair) Refusal → Type 0
+SmallestAs S n (Err refusal) = (refusal ≡ FewPairs) × (n < count S)
+SmallestAs S n (Ok (Some pair)) = (count S ≤ n) × SmallestLoop S pair.left pair.right
+SmallestAs S n (Ok None) = (count S ≤ n) × ((x y : ℕ) → y < 256 → (w : ℕ) × Settles S x y w)
 
 -- the outcome of the pair of x and y: number 17, number 14, the code that it leaves, or that it loops
 abbrev pub InRange : ℕ → ℕ → Type 0
 InRange x y = (x < 257) × (y < 256)
 
-abbrev pub PairAs : (ℕ → ℕ → Step) → ℕ → ℕ → ℕ → PairOutcome → Type 0
-PairAs S n x y OutOfRange = InRange x y → ⊥
-PairAs S n x y Few = InRange x y × (n < count S)
-PairAs S n x y (Leaves w) = InRange x y × (count S ≤ n) × Settles S x y w
-PairAs S n x y Looping = InRange x y × (count S ≤ n) × Loops S x y
+abbrev pub PairRefused : (ℕ → ℕ → Step) → ℕ → ℕ → ℕ → Refusal → Type 0
+PairRefused S n x y OutOfRange = InRange x y → ⊥
+PairRefused S n x y FewPairs = InRange x y × (n < count S)
+PairRefused S n x y _ = ⊥
+
+abbrev pub PairAs : (ℕ → ℕ → Step) → ℕ → ℕ → ℕ → Result (Option ℕ) Refusal → Type 0
+PairAs S n x y (Err refusal) = PairRefused S n x y refusal
+PairAs S n x y (Ok (Some w)) = InRange x y × (count S ≤ n) × Settles S x y w
+PairAs S n x y (Ok None) = InRange x y × (count S ≤ n) × Loops S x y
 
 -- the room a afterwards: as it was where a code is out of range, else zeros
-abbrev pub room_after : List ℕ → PairOutcome → List ℕ
-room_after a OutOfRange = a
-room_after a Few = replicate (length a) 0
-room_after a (Leaves w) = replicate (length a) 0
-room_after a Looping = replicate (length a) 0
+abbrev pub room_refused : List ℕ → Refusal → List ℕ
+room_refused a OutOfRange = a
+room_refused a _ = replicate (length a) 0
+
+abbrev pub room_after : List ℕ → Result (Option ℕ) Refusal → List ℕ
+room_after a (Err refusal) = room_refused a refusal
+room_after a (Ok w) = replicate (length a) 0

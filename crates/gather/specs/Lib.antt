@@ -1,4 +1,6 @@
 -- What the contracts of `gather` cite
 pub mod Steps
 pub mod Answers
+pub mod Entries
 pub mod Pairs
+pub mod Fonts

@@ -1,24 +1,28 @@
--- What is left to write of a string, letter by letter.
-use Prim.Native.Nat.{ℕ, suc, ◌+◌, ◌-◌, ◌≤◌, ◌<◌}
-use native.Mathlib.Omega.{arith}
-use mathlib.Core.Path.{◌≡◌}
-use mathlib.Core.List.{List}
-use Rattle.lent.specs.Write.{Pen, put1, puts}
+-- A string, letter by letter.
+use Rattle.std.proofs.Common.{◌≡◌, ap, subst, sym, ◌∙◌, ℕ, zero, suc, ◌+◌, List, [], ◌∷◌, ◌++◌, arith}
+use Rattle.lent.specs.Write.{byte, lit}
+use Rattle.lent.specs.Pens.{Written}
+use Rattle.lent.specs.declared.Pen.{Pen}
+use Rattle.lent.proofs.Pens.{no_byte, one_byte}
 use Rattle.header.specs.Header.{letter_of, letters_from}
 
-pub letters_all : (p : Pen) (h : List ℕ) (string n : ℕ) → puts p (letters_from h string 0 (n - 0)) ≡ puts p (letters_from h string 0 n)
-letters_all p h string n =
-    let k : n - 0 ≡ n = omega arith in
-    rw k
+module _ (h : List ℕ) (string : ℕ) where
+  letters_more : (i k : ℕ) → letters_from h string i (suc k) ≡ letters_from h string i k ++ letter_of h string (i + k) ∷ []
+  unfolding letters_from
+  letters_more i zero = let e : i + 0 ≡ i = omega arith in rw e
+  letters_more i (suc k) =
+      let e : i + suc k ≡ i + 1 + k = omega arith in
+      rw e (ap (λ l. letter_of h string i ∷ l) (letters_more (i + 1) k))
 
-pub letters_next : (p : Pen) (h : List ℕ) (string i n : ℕ) → i < n → puts p (letters_from h string i (n - i)) ≡ puts (put1 p (letter_of h string i)) (letters_from h string (i + 1) (n - (i + 1)))
-unfolding puts letters_from
-letters_next p h string i n lt =
-    let k : n - i ≡ suc (n - (i + 1)) = omega arith in
-    rw k
+  pub no_letter : {p : Pen} → Written p (lit (letters_from h string 0 0)) p
+  unfolding letters_from
+  no_letter = no_byte
 
-pub letters_done : (p q : Pen) (h : List ℕ) (string i n : ℕ) → puts p (letters_from h string i (n - i)) ≡ q → n ≤ i → p ≡ q
-unfolding puts letters_from
-letters_done p q h string i n e le =
-    let k : n - i ≡ 0 = omega arith in
-    rw k at e
+  pub one_letter : (i : ℕ) {p q r : Pen} → Written q (byte (letter_of h string i)) r → Written p (lit (letters_from h string 0 i)) q
+      → Written p (lit (letters_from h string 0 (i + 1))) r
+  one_letter i {p} {q} {r} e g =
+      let n : suc i ≡ i + 1 = omega arith in
+      let z : 0 + i ≡ i = omega arith in
+      let more : letters_from h string 0 (i + 1) ≡ letters_from h string 0 i ++ letter_of h string i ∷ [] =
+      subst (λ k. letters_from h string 0 k ≡ letters_from h string 0 i ++ letter_of h string i ∷ []) n (letters_more 0 i ∙ ap (λ k. letters_from h string 0 i ++ letter_of h string k ∷ []) z) in
+      subst (λ l. Written p (lit l) r) (sym more) (one_byte e g)

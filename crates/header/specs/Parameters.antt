@@ -1,5 +1,5 @@
 -- The parameters as items: 003 §58 to §61. i is a parameter's number, from 1 on, and w its word.
-use Rattle.std.specs.Prelude.{ℕ, ◌+◌, List, [], ◌∷◌, leb, eqb}
+use Rattle.std.specs.Prelude.{ℕ, ◌+◌, cond, List, [], ◌∷◌, Option, Some, None, leb, eqb}
 use Rattle.lent.specs.Write.{codes}
 use Rattle.tfm.specs.Lengths.{word_of}
 use Rattle.items.specs.Items.{dec, real, Items, empty, leaf, group, choose, loop}
@@ -77,3 +77,60 @@ parameter_at kind params i = parameter_item kind (i + 1) (word_of params i)
 unfoldable pub fontdimen : Kind → List ℕ → ℕ → Items
 fontdimen kind params n =
     choose (eqb n 0) empty (group (codes "FONTDIMEN") [] (loop n (parameter_at kind params)))
+
+-- the names alone
+abbrev pub common_name : ℕ → List ℕ
+common_name i =
+    cond (eqb i 1) (codes "SLANT")
+    (cond (eqb i 2) (codes "SPACE")
+    (cond (eqb i 3) (codes "STRETCH")
+    (cond (eqb i 4) (codes "SHRINK")
+    (cond (eqb i 5) (codes "XHEIGHT")
+    (cond (eqb i 6) (codes "QUAD")
+    (codes "EXTRASPACE"))))))
+
+abbrev pub fraction_name : ℕ → List ℕ
+fraction_name i =
+    cond (eqb i 8) (codes "NUM1")
+    (cond (eqb i 9) (codes "NUM2")
+    (cond (eqb i 10) (codes "NUM3")
+    (cond (eqb i 11) (codes "DENOM1")
+    (codes "DENOM2"))))
+
+abbrev pub script_name : ℕ → List ℕ
+script_name i =
+    cond (eqb i 13) (codes "SUP1")
+    (cond (eqb i 14) (codes "SUP2")
+    (cond (eqb i 15) (codes "SUP3")
+    (cond (eqb i 16) (codes "SUB1")
+    (cond (eqb i 17) (codes "SUB2")
+    (cond (eqb i 18) (codes "SUPDROP")
+    (codes "SUBDROP"))))))
+
+abbrev pub delimiter_name : ℕ → Option (List ℕ)
+delimiter_name i =
+    cond (eqb i 20) (Some (codes "DELIM1"))
+    (cond (eqb i 21) (Some (codes "DELIM2"))
+    (cond (eqb i 22) (Some (codes "AXISHEIGHT"))
+    None))
+
+abbrev pub symbols_name : ℕ → Option (List ℕ)
+symbols_name i = cond (leb i 12) (Some (fraction_name i)) (cond (leb i 19) (Some (script_name i)) (delimiter_name i))
+
+abbrev pub extension_name : ℕ → Option (List ℕ)
+extension_name i =
+    cond (eqb i 8) (Some (codes "DEFAULTRULETHICKNESS"))
+    (cond (eqb i 9) (Some (codes "BIGOPSPACING1"))
+    (cond (eqb i 10) (Some (codes "BIGOPSPACING2"))
+    (cond (eqb i 11) (Some (codes "BIGOPSPACING3"))
+    (cond (eqb i 12) (Some (codes "BIGOPSPACING4"))
+    (cond (eqb i 13) (Some (codes "BIGOPSPACING5"))
+    None)))))
+
+unfoldable pub further_name : Kind → ℕ → Option (List ℕ)
+further_name Vanilla i = None
+further_name MathSymbols i = symbols_name i
+further_name MathExtension i = extension_name i
+
+unfoldable pub name_of : Kind → ℕ → Option (List ℕ)
+name_of kind i = cond (leb i 7) (Some (common_name i)) (further_name kind i)

@@ -3,28 +3,31 @@
 
 pub mod parameters;
 
-ghost use Rattle.std.specs.Prelude.{◌≡◌, [], ◌∷◌, ◌+◌, ◌-◌, ◌<◌, ◌≤◌};
-ghost use Rattle.lent.specs.Write.{pen, byte, lit, codes, Wrote};
-ghost use Rattle.tfm.specs.Characters.{byte_of};
-ghost use Rattle.items.specs.Items.{Word, word_text, leaf, loop, ◌▸◌, Listed};
-ghost use Rattle.header.specs.Header.{kind_of, letters_in, letter_of, spelled, scheme_item, family_item, face_text, face_item, header_word, rest_items, family_items, string_items, design_item, remarks, check_item, flag_item, header_items};
+ghost use Rattle.std.specs.Prelude.{◌≡◌, [], ◌∷◌, ◌+◌, ◌-◌};
+ghost use Rattle.lent.specs.Write.{byte, lit};
+ghost use Rattle.lent.specs.Pens.{Written};
+ghost use Rattle.items.specs.Items.{raw, word_text, leaf, loop, Printed};
+ghost use Rattle.header.specs.Header.{kind_of, letters_in, letter_of, spelled, face_text, face_item, header_word, rest_items, family_items, string_items, design_item, remarks, check_item, flag_item, header_items};
 
-use tfm::Layout;
+use items::Word;
+use lent::Pen;
+use tfm::Font;
 
 // 003's font_type.
-#[derive(Clone, Copy)]
+#[derive(Clone, Copy, Debug, PartialEq, Eq)]
 pub enum Kind {
     Vanilla,
     MathSymbols,
     MathExtension,
 }
 
-pub fn kind_of(h: &[u8], l: Layout) -> Kind
-    ensures { result ≡ kind_of h.now l }
+#[tactic(auto, unfolding(crate::specs::Header::kind_of))]
+pub fn kind_of(font: &Font) -> Kind
+    ensures { result ≡ kind_of font.now.header.now font.now.layout }
 {
-    if faults::header::math_symbols(h, l) {
+    if faults::header::math_symbols(font) {
         Kind::MathSymbols
-    } else if faults::header::math_extension(h, l) {
+    } else if faults::header::math_extension(font) {
         Kind::MathExtension
     } else {
         Kind::Vanilla
@@ -32,208 +35,159 @@ pub fn kind_of(h: &[u8], l: Layout) -> Kind
 }
 
 // Letters and digits stand for themselves.
+#[tactic(auto, unfolding(crate::specs::Header::letters_in))]
 pub fn letters_in(kind: Kind) -> bool
     ensures { result ≡ letters_in kind }
 {
-    match kind {
-        Kind::Vanilla => true,
-        Kind::MathSymbols => false,
-        Kind::MathExtension => false,
+    kind == Kind::Vanilla
+}
+
+fn put_letter(pen: &mut Pen, font: &Font, string: u32, i: u8)
+    ensures { Written pen.old (byte (letter_of font.now.header.now string i)) pen.new }
+{
+    let letter = faults::header::string_byte(font, string, i as u32 + 1);
+    pen.put(faults::header::upper(letter));
+}
+
+// By number, as a letter past the end of the file counts as 0.
+fn put_letters(pen: &mut Pen, font: &Font, string: u32)
+    ensures { Written pen.old (lit (spelled font.now.header.now string)) pen.new }
+{
+    for i in 0..faults::header::string_byte(font, string, 0) {
+        put_letter(pen, font, string, i);
     }
 }
 
-fn put_letter(out: &mut [u8], to: usize, h: &[u8], string: u32, i: u32) -> usize
-    requires { i < 256 }
-    ensures { Wrote (pen out.old to) (byte (letter_of h.now string i)) (pen out.new result) }
+fn put_spelled(pen: &mut Pen, font: &Font, string: u32)
+    ensures { Written pen.old (word_text (raw (spelled font.now.header.now string))) pen.new }
 {
-    let letter = faults::header::upper(faults::header::string_byte(h, string, i + 1));
-    lent::put(out, to, letter)
+    pen.put(b' ');
+    put_letters(pen, font, string);
 }
 
-fn put_letters(out: &mut [u8], to: usize, h: &[u8], string: u32) -> usize
-    ensures { Wrote (pen out.old to) (lit (spelled h.now string)) (pen out.new result) }
+// A string of the header, by its number as in faults, under a name. Its letters stand nowhere as they are printed, so they are no word for a leaf.
+fn put_string(pen: &mut Pen, name: &[u8], font: &Font, string: u32)
+    ensures { Printed pen.old 0 (leaf name.now (raw (spelled font.now.header.now string) ∷ [])) pen.new }
 {
-    let n = faults::header::string_byte(h, string, 0) as u32;
-    let mut to = to;
-    for i in 0..n {
-        to = put_letter(out, to, h, string, i);
-    }
-    to
+    items::put_name(pen, name);
+    put_spelled(pen, font, string);
+    items::put_close(pen, 0);
 }
 
-fn put_spelled(out: &mut [u8], to: usize, h: &[u8], string: u32) -> usize
-    ensures { Wrote (pen out.old to) (word_text (Word.raw (spelled h.now string))) (pen out.new result) }
-{
-    let to = lent::put(out, to, b' ');
-    put_letters(out, to, h, string)
-}
-
-fn put_scheme(out: &mut [u8], to: usize, h: &[u8]) -> usize
-    ensures { Listed (pen out.old to) 0 (scheme_item h.now) (pen out.new result) }
-{
-    let to = items::put_name(out, to, b"CODINGSCHEME");
-    let to = put_spelled(out, to, h, 0);
-    items::put_close(out, to, 0)
-}
-
-fn put_family(out: &mut [u8], to: usize, h: &[u8]) -> usize
-    ensures { Listed (pen out.old to) 0 (family_item h.now) (pen out.new result) }
-{
-    let to = items::put_name(out, to, b"FAMILY");
-    let to = put_spelled(out, to, h, 1);
-    items::put_close(out, to, 0)
-}
-
+#[tactic(auto, unfolding(crate::specs::Header::face_text))]
 fn face_text(face: u8) -> [u8; 5]
     ensures { result ≡ face_text face }
 {
     [
         b'F',
         b' ',
-        lent::at(b"MBL", (face / 2 % 3) as usize),
-        lent::at(b"RI", (face % 2) as usize),
-        lent::at(b"RCE", (face / 2 / 3) as usize),
+        lent::at(b"MBL", (face / 2 % 3) as usize, 0),
+        lent::at(b"RI", (face % 2) as usize, 0),
+        lent::at(b"RCE", (face / 2 / 3) as usize, 0),
     ]
 }
 
-fn put_named_face(out: &mut [u8], to: usize, face: u8) -> usize
-    ensures { Listed (pen out.old to) 0 (leaf (codes "FACE") (Word.raw (face_text face) ∷ [])) (pen out.new result) }
-{
-    let text = face_text(face);
-    items::leaf_raw(out, to, 0, b"FACE", &text)
-}
-
-fn put_face(out: &mut [u8], to: usize, face: u8) -> usize
-    ensures { Listed (pen out.old to) 0 (face_item face) (pen out.new result) }
+fn put_face(pen: &mut Pen, face: u8)
+    ensures { Printed pen.old 0 (face_item face) pen.new }
 {
     if face < 18 {
-        put_named_face(out, to, face)
+        items::put_leaf(pen, 0, b"FACE", &[Word::Raw(&face_text(face))]);
     } else {
-        items::leaf_oct(out, to, 0, b"FACE", face as u32)
+        items::put_leaf(pen, 0, b"FACE", &[Word::Oct(face as u32)]);
     }
 }
 
-fn put_header_word(out: &mut [u8], to: usize, h: &[u8], i: u32) -> usize
-    requires { i < 65536 }
-    ensures { Listed (pen out.old to) 0 (header_word h.now i) (pen out.new result) }
+fn put_header_word(pen: &mut Pen, font: &Font, i: u16)
+    ensures { Printed pen.old 0 (header_word font.now.header.now i) pen.new }
 {
-    let to = items::put_name(out, to, b"HEADER");
-    let to = items::put_dec(out, to, i + 18);
-    let word = tfm::word_of(h, i + 18);
-    let to = items::put_oct(out, to, word);
-    items::put_close(out, to, 0)
+    let at = i as u32 + 18;
+    let word = tfm::word_of(font.header, at);
+    items::put_leaf(pen, 0, b"HEADER", &[Word::Dec(at), Word::Oct(word)]);
 }
 
-fn put_header_words(out: &mut [u8], to: usize, h: &[u8], n: u32) -> usize
-    requires { n ≤ 65536 }
-    ensures { Listed (pen out.old to) 0 (loop n (header_word h.now)) (pen out.new result) }
+// By number, as it is printed.
+fn put_header_words(pen: &mut Pen, font: &Font, n: u16)
+    ensures { Printed pen.old 0 (loop n (header_word font.now.header.now)) pen.new }
 {
-    let mut to = to;
     for i in 0..n {
-        to = put_header_word(out, to, h, i);
+        put_header_word(pen, font, i);
     }
-    to
 }
 
-fn put_face_and_words(out: &mut [u8], to: usize, h: &[u8], l: Layout) -> usize
-    ensures { Listed (pen out.old to) 0 (face_item (byte_of h.now 17 3) ▸ loop (l.lh - 18) (header_word h.now)) (pen out.new result) }
+// The face and the words after it.
+fn put_rest(pen: &mut Pen, font: &Font)
+    ensures { Printed pen.old 0 (rest_items font.now.header.now font.now.layout) pen.new }
 {
-    let face = tfm::byte_of(h, 17, 3);
-    let to = put_face(out, to, face);
-    let n = lent::minus(l.lh as u32, 18);
-    put_header_words(out, to, h, n)
+    if 18 <= font.layout.lh {
+        put_face(pen, tfm::byte_of(font.header, 17, 3));
+        put_header_words(pen, font, font.layout.lh.saturating_sub(18));
+    }
 }
 
-fn put_rest(out: &mut [u8], to: usize, h: &[u8], l: Layout) -> usize
-    ensures { Listed (pen out.old to) 0 (rest_items h.now l) (pen out.new result) }
+// The family and the rest.
+fn put_families(pen: &mut Pen, font: &Font)
+    ensures { Printed pen.old 0 (family_items font.now.header.now font.now.layout) pen.new }
 {
-    if 18 <= l.lh {
-        put_face_and_words(out, to, h, l)
+    if 17 <= font.layout.lh {
+        put_string(pen, b"FAMILY", font, 1);
+        put_rest(pen, font);
+    }
+}
+
+// What stands after the first two words, if a coding scheme does.
+fn put_strings(pen: &mut Pen, font: &Font)
+    ensures { Printed pen.old 0 (string_items font.now.header.now font.now.layout) pen.new }
+{
+    if 12 <= font.layout.lh {
+        put_families(pen, font);
+        put_string(pen, b"CODINGSCHEME", font, 0);
+    }
+}
+
+fn put_design_size(pen: &mut Pen, font: &Font)
+    ensures { Printed pen.old 0 (design_item font.now.header.now) pen.new }
+{
+    if faults::header::bad_design_size(font) {
+        items::put_leaf(pen, 0, b"DESIGNSIZE", &[Word::Dec(10)]);
     } else {
-        to
+        let word = tfm::word_of(font.header, 1);
+        items::put_leaf(pen, 0, b"DESIGNSIZE", &[Word::Real(word)]);
     }
 }
 
-fn put_family_and_rest(out: &mut [u8], to: usize, h: &[u8], l: Layout) -> usize
-    ensures { Listed (pen out.old to) 0 (family_item h.now ▸ rest_items h.now l) (pen out.new result) }
+fn put_remarks(pen: &mut Pen)
+    ensures { Printed pen.old 0 remarks pen.new }
 {
-    let to = put_family(out, to, h);
-    put_rest(out, to, h, l)
-}
-
-fn put_families(out: &mut [u8], to: usize, h: &[u8], l: Layout) -> usize
-    ensures { Listed (pen out.old to) 0 (family_items h.now l) (pen out.new result) }
-{
-    if 17 <= l.lh {
-        put_family_and_rest(out, to, h, l)
-    } else {
-        to
-    }
-}
-
-fn put_families_and_scheme(out: &mut [u8], to: usize, h: &[u8], l: Layout) -> usize
-    ensures { Listed (pen out.old to) 0 (family_items h.now l ▸ scheme_item h.now) (pen out.new result) }
-{
-    let to = put_families(out, to, h, l);
-    put_scheme(out, to, h)
-}
-
-fn put_strings(out: &mut [u8], to: usize, h: &[u8], l: Layout) -> usize
-    ensures { Listed (pen out.old to) 0 (string_items h.now l) (pen out.new result) }
-{
-    if 12 <= l.lh {
-        put_families_and_scheme(out, to, h, l)
-    } else {
-        to
-    }
-}
-
-fn put_design_size(out: &mut [u8], to: usize, h: &[u8]) -> usize
-    ensures { Listed (pen out.old to) 0 (design_item h.now) (pen out.new result) }
-{
-    let word = tfm::word_of(h, 1);
-    if faults::header::bad_design_size(h) {
-        items::leaf_dec(out, to, 0, b"DESIGNSIZE", 10)
-    } else {
-        items::leaf_real(out, to, 0, b"DESIGNSIZE", word)
-    }
-}
-
-fn put_remarks(out: &mut [u8], to: usize) -> usize
-    ensures { Listed (pen out.old to) 0 remarks (pen out.new result) }
-{
-    let to = items::leaf_bare(out, to, 0, b"COMMENT DESIGNSIZE IS IN POINTS");
-    items::leaf_bare(
-        out,
-        to,
+    items::put_leaf(pen, 0, b"COMMENT DESIGNSIZE IS IN POINTS", &[]);
+    items::put_leaf(
+        pen,
         0,
         b"COMMENT OTHER SIZES ARE MULTIPLES OF DESIGNSIZE",
-    )
+        &[],
+    );
 }
 
-fn put_check_sum(out: &mut [u8], to: usize, h: &[u8]) -> usize
-    ensures { Listed (pen out.old to) 0 (check_item h.now) (pen out.new result) }
+fn put_check_sum(pen: &mut Pen, font: &Font)
+    ensures { Printed pen.old 0 (check_item font.now.header.now) pen.new }
 {
-    let word = tfm::word_of(h, 0);
-    items::leaf_oct(out, to, 0, b"CHECKSUM", word)
+    let word = tfm::word_of(font.header, 0);
+    items::put_leaf(pen, 0, b"CHECKSUM", &[Word::Oct(word)]);
 }
 
-fn put_flag(out: &mut [u8], to: usize, h: &[u8], l: Layout) -> usize
-    ensures { Listed (pen out.old to) 0 (flag_item h.now l) (pen out.new result) }
+fn put_flag(pen: &mut Pen, font: &Font)
+    ensures { Printed pen.old 0 (flag_item font.now.header.now font.now.layout) pen.new }
 {
-    if (17 < l.lh) & (127 < tfm::byte_of(h, 17, 0)) {
-        items::leaf_raw(out, to, 0, b"SEVENBITSAFEFLAG", b"TRUE")
-    } else {
-        to
+    if (17 < font.layout.lh) & (127 < tfm::byte_of(font.header, 17, 0)) {
+        items::put_leaf(pen, 0, b"SEVENBITSAFEFLAG", &[Word::Raw(b"TRUE")]);
     }
 }
 
-pub fn put_header(out: &mut [u8], to: usize, h: &[u8], l: Layout) -> usize
-    ensures { Listed (pen out.old to) 0 (header_items h.now l) (pen out.new result) }
+pub fn put_header(pen: &mut Pen, font: &Font)
+    ensures { Printed pen.old 0 (header_items font.now.header.now font.now.layout) pen.new }
 {
-    let to = put_strings(out, to, h, l);
-    let to = put_design_size(out, to, h);
-    let to = put_remarks(out, to);
-    let to = put_check_sum(out, to, h);
-    put_flag(out, to, h, l)
+    put_strings(pen, font);
+    put_design_size(pen, font);
+    put_remarks(pen);
+    put_check_sum(pen, font);
+    put_flag(pen, font);
 }

@@ -1,151 +1,122 @@
 // The parameters of a font by their names.
-ghost use Rattle.std.specs.Prelude.{[], ◌<◌, ◌≤◌};
-ghost use Rattle.lent.specs.Write.{pen, codes};
-ghost use Rattle.items.specs.Items.{group, loop, Listed};
-ghost use Rattle.header.specs.Parameters.{common_item, numbered_item, fraction_item, script_item, delimiter_item, symbols_item, extension_item, further_item, parameter_item, parameter_at, fontdimen};
+ghost use Rattle.std.specs.Prelude.{◌≡◌, []};
+ghost use Rattle.std.specs.Option.{option_copied};
+ghost use Rattle.lent.specs.Write.{codes};
+ghost use Rattle.items.specs.Items.{group, loop, Printed};
+ghost use Rattle.header.specs.Parameters.{parameter_item, parameter_at, fontdimen, common_name, symbols_name, extension_name, name_of};
 
 use crate::Kind;
+use items::Word;
+use lent::Pen;
+use tfm::Font;
 
-fn put_common(out: &mut [u8], to: usize, i: u32, w: u32) -> usize
-    ensures { Listed (pen out.old to) 1 (common_item i w) (pen out.new result) }
+// The names that all fonts have. (Of the numbers from 1 to 7, that is: no other is asked for, and the definition too has 7's name for all the others.)
+fn common_name(i: u32) -> &'static [u8]
+    ensures { result.now ≡ common_name i }
 {
     match i {
-        1 => items::leaf_real(out, to, 1, b"SLANT", w),
-        2 => items::leaf_real(out, to, 1, b"SPACE", w),
-        3 => items::leaf_real(out, to, 1, b"STRETCH", w),
-        4 => items::leaf_real(out, to, 1, b"SHRINK", w),
-        5 => items::leaf_real(out, to, 1, b"XHEIGHT", w),
-        6 => items::leaf_real(out, to, 1, b"QUAD", w),
-        _ => items::leaf_real(out, to, 1, b"EXTRASPACE", w),
+        1 => b"SLANT",
+        2 => b"SPACE",
+        3 => b"STRETCH",
+        4 => b"SHRINK",
+        5 => b"XHEIGHT",
+        6 => b"QUAD",
+        _ => b"EXTRASPACE",
     }
 }
 
-fn put_numbered(out: &mut [u8], to: usize, i: u32, w: u32) -> usize
-    ensures { Listed (pen out.old to) 1 (numbered_item i w) (pen out.new result) }
-{
-    let to = items::put_name(out, to, b"PARAMETER");
-    let to = items::put_dec(out, to, i);
-    let to = items::put_real(out, to, w);
-    items::put_close(out, to, 1)
-}
-
-fn put_fraction(out: &mut [u8], to: usize, i: u32, w: u32) -> usize
-    ensures { Listed (pen out.old to) 1 (fraction_item i w) (pen out.new result) }
+// Those of a math symbols font, from 8 on. (The patterns up to 12 and up to 19 are the bounds that the definitions go by: below 8 no name is asked for.)
+fn symbols_name(i: u32) -> Option<&'static [u8]>
+    ensures { option_copied result ≡ symbols_name i }
 {
     match i {
-        8 => items::leaf_real(out, to, 1, b"NUM1", w),
-        9 => items::leaf_real(out, to, 1, b"NUM2", w),
-        10 => items::leaf_real(out, to, 1, b"NUM3", w),
-        11 => items::leaf_real(out, to, 1, b"DENOM1", w),
-        _ => items::leaf_real(out, to, 1, b"DENOM2", w),
+        8 => Some(b"NUM1"),
+        9 => Some(b"NUM2"),
+        10 => Some(b"NUM3"),
+        11 => Some(b"DENOM1"),
+        ..=12 => Some(b"DENOM2"),
+        13 => Some(b"SUP1"),
+        14 => Some(b"SUP2"),
+        15 => Some(b"SUP3"),
+        16 => Some(b"SUB1"),
+        17 => Some(b"SUB2"),
+        18 => Some(b"SUPDROP"),
+        ..=19 => Some(b"SUBDROP"),
+        20 => Some(b"DELIM1"),
+        21 => Some(b"DELIM2"),
+        22 => Some(b"AXISHEIGHT"),
+        _ => None,
     }
 }
 
-fn put_script(out: &mut [u8], to: usize, i: u32, w: u32) -> usize
-    ensures { Listed (pen out.old to) 1 (script_item i w) (pen out.new result) }
+// And of a math extension font.
+fn extension_name(i: u32) -> Option<&'static [u8]>
+    ensures { option_copied result ≡ extension_name i }
 {
     match i {
-        13 => items::leaf_real(out, to, 1, b"SUP1", w),
-        14 => items::leaf_real(out, to, 1, b"SUP2", w),
-        15 => items::leaf_real(out, to, 1, b"SUP3", w),
-        16 => items::leaf_real(out, to, 1, b"SUB1", w),
-        17 => items::leaf_real(out, to, 1, b"SUB2", w),
-        18 => items::leaf_real(out, to, 1, b"SUPDROP", w),
-        _ => items::leaf_real(out, to, 1, b"SUBDROP", w),
+        8 => Some(b"DEFAULTRULETHICKNESS"),
+        9 => Some(b"BIGOPSPACING1"),
+        10 => Some(b"BIGOPSPACING2"),
+        11 => Some(b"BIGOPSPACING3"),
+        12 => Some(b"BIGOPSPACING4"),
+        13 => Some(b"BIGOPSPACING5"),
+        _ => None,
     }
 }
 
-fn put_delimiter(out: &mut [u8], to: usize, i: u32, w: u32) -> usize
-    ensures { Listed (pen out.old to) 1 (delimiter_item i w) (pen out.new result) }
-{
-    match i {
-        20 => items::leaf_real(out, to, 1, b"DELIM1", w),
-        21 => items::leaf_real(out, to, 1, b"DELIM2", w),
-        22 => items::leaf_real(out, to, 1, b"AXISHEIGHT", w),
-        _ => put_numbered(out, to, i, w),
-    }
-}
-
-fn put_symbols(out: &mut [u8], to: usize, i: u32, w: u32) -> usize
-    ensures { Listed (pen out.old to) 1 (symbols_item i w) (pen out.new result) }
-{
-    if i <= 12 {
-        put_fraction(out, to, i, w)
-    } else if i <= 19 {
-        put_script(out, to, i, w)
-    } else {
-        put_delimiter(out, to, i, w)
-    }
-}
-
-fn put_extension(out: &mut [u8], to: usize, i: u32, w: u32) -> usize
-    ensures { Listed (pen out.old to) 1 (extension_item i w) (pen out.new result) }
-{
-    match i {
-        8 => items::leaf_real(out, to, 1, b"DEFAULTRULETHICKNESS", w),
-        9 => items::leaf_real(out, to, 1, b"BIGOPSPACING1", w),
-        10 => items::leaf_real(out, to, 1, b"BIGOPSPACING2", w),
-        11 => items::leaf_real(out, to, 1, b"BIGOPSPACING3", w),
-        12 => items::leaf_real(out, to, 1, b"BIGOPSPACING4", w),
-        13 => items::leaf_real(out, to, 1, b"BIGOPSPACING5", w),
-        _ => put_numbered(out, to, i, w),
-    }
-}
-
-fn put_further(out: &mut [u8], to: usize, kind: Kind, i: u32, w: u32) -> usize
-    ensures { Listed (pen out.old to) 1 (further_item kind i w) (pen out.new result) }
-{
-    match kind {
-        Kind::Vanilla => put_numbered(out, to, i, w),
-        Kind::MathSymbols => put_symbols(out, to, i, w),
-        Kind::MathExtension => put_extension(out, to, i, w),
-    }
-}
-
-fn put_parameter(out: &mut [u8], to: usize, kind: Kind, i: u32, w: u32) -> usize
-    ensures { Listed (pen out.old to) 1 (parameter_item kind i w) (pen out.new result) }
+// The name of parameter i, from 1 on, where it has one.
+#[tactic(auto, unfolding(crate::specs::Parameters::name_of, crate::specs::Parameters::further_name))]
+fn name_of(kind: Kind, i: u32) -> Option<&'static [u8]>
+    ensures { option_copied result ≡ name_of kind i }
 {
     if i <= 7 {
-        put_common(out, to, i, w)
-    } else {
-        put_further(out, to, kind, i, w)
+        return Some(common_name(i));
+    }
+    match kind {
+        Kind::Vanilla => None,
+        Kind::MathSymbols => symbols_name(i),
+        Kind::MathExtension => extension_name(i),
     }
 }
 
-fn put_parameter_at(out: &mut [u8], to: usize, kind: Kind, params: &[u8], i: u32) -> usize
-    requires { i < 65536 }
-    ensures { Listed (pen out.old to) 1 (parameter_at kind params.now i) (pen out.new result) }
+fn put_parameter(pen: &mut Pen, kind: Kind, i: u32, w: u32)
+    ensures { Printed pen.old 1 (parameter_item kind i w) pen.new }
 {
-    let w = tfm::word_of(params, i);
-    put_parameter(out, to, kind, i + 1, w)
-}
-
-fn put_each_parameter(out: &mut [u8], to: usize, kind: Kind, params: &[u8], n: u32) -> usize
-    requires { n ≤ 65536 }
-    ensures { Listed (pen out.old to) 1 (loop n (parameter_at kind params.now)) (pen out.new result) }
-{
-    let mut to = to;
-    for i in 0..n {
-        to = put_parameter_at(out, to, kind, params, i);
+    match name_of(kind, i) {
+        Some(name) => items::put_leaf(pen, 1, name, &[Word::Real(w)]),
+        None => items::put_leaf(pen, 1, b"PARAMETER", &[Word::Dec(i), Word::Real(w)]),
     }
-    to
 }
 
-fn put_group(out: &mut [u8], to: usize, kind: Kind, params: &[u8], n: u32) -> usize
-    requires { n ≤ 65536 }
-    ensures { Listed (pen out.old to) 0 (group (codes "FONTDIMEN") [] (loop n (parameter_at kind params.now))) (pen out.new result) }
+fn put_parameter_at(pen: &mut Pen, kind: Kind, font: &Font, i: u16)
+    ensures { Printed pen.old 1 (parameter_at kind font.now.params.now i) pen.new }
 {
-    let to = items::group_bare(out, to, 1, b"FONTDIMEN");
-    let to = put_each_parameter(out, to, kind, params, n);
-    items::put_close(out, to, 0)
+    let w = tfm::word_of(font.params, i as u32);
+    put_parameter(pen, kind, i as u32 + 1, w);
 }
 
-pub fn put_fontdimen(out: &mut [u8], to: usize, kind: Kind, params: &[u8], n: u16) -> usize
-    ensures { Listed (pen out.old to) 0 (fontdimen kind params.now n) (pen out.new result) }
+// By number, as it is printed.
+fn put_each_parameter(pen: &mut Pen, kind: Kind, font: &Font)
+    ensures { Printed pen.old 1 (loop font.now.layout.np (parameter_at kind font.now.params.now)) pen.new }
 {
-    if n == 0 {
-        to
-    } else {
-        put_group(out, to, kind, params, n as u32)
+    for i in 0..font.layout.np {
+        put_parameter_at(pen, kind, font, i);
+    }
+}
+
+fn put_group(pen: &mut Pen, kind: Kind, font: &Font)
+    ensures { Printed pen.old 0 (group (codes "FONTDIMEN") [] (loop font.now.layout.np (parameter_at kind font.now.params.now))) pen.new }
+{
+    items::open_group(pen, 1, b"FONTDIMEN", &[]);
+    put_each_parameter(pen, kind, font);
+    items::put_close(pen, 0);
+}
+
+// The parameters, where there are some.
+pub fn put_fontdimen(pen: &mut Pen, kind: Kind, font: &Font)
+    ensures { Printed pen.old 0 (fontdimen kind font.now.params.now font.now.layout.np) pen.new }
+{
+    if font.layout.np != 0 {
+        put_group(pen, kind, font);
     }
 }

@@ -1,3 +1,2 @@
 -- The laws of `ink` that belong to no one function
-pub mod Digits
-pub mod Left
+mod Digits

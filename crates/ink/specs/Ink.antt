@@ -1,5 +1,5 @@
 -- How the listing prints line ends, numbers and character codes (003 §34 to §38).
-use Rattle.std.specs.Prelude.{ℕ, zero, suc, ◌+◌, ◌/◌, ◌%◌, Bool, true, false, ◌&&◌, ◌||◌, List, [], ◌∷◌, ◌++◌, leb, eqb, get_or}
+use Rattle.std.specs.Prelude.{ℕ, zero, suc, ◌+◌, ◌/◌, ◌%◌, Bool, true, false, ◌&&◌, ◌||◌, List, [], ◌∷◌, ◌++◌, leb, eqb}
 use Rattle.lent.specs.Write.{Text, byte, lit, ◌▹◌, when, each, codes}
 
 -- three spaces, at each of the levels
@@ -15,11 +15,6 @@ unfoldable pub digits : ℕ → ℕ → ℕ → List ℕ
 digits base zero n = []
 digits base (suc k) n =
     elim (eqb (n / base) 0) [ true ↦ [] | false ↦ digits base k (n / base) ] ++ ((48 + n % base) ∷ [])
-
--- the first j of a list, from the last to the first
-unfoldable pub turned : List ℕ → ℕ → List ℕ
-turned ds zero = []
-turned ds (suc j) = get_or ds j 0 ∷ turned ds j
 
 -- a number in decimal
 unfoldable pub number : ℕ → Text

@@ -1,6 +1,8 @@
 -- A property list as a tree, and its text as 003 lays it out: three spaces a level.
-use Rattle.std.specs.Prelude.{ℕ, zero, suc, ◌+◌, Bool, List, [], ◌∷◌, ltb}
-use Rattle.lent.specs.Write.{Pen, Text, none, byte, lit, ◌▹◌, when, each, codes, Wrote}
+use Rattle.std.specs.Prelude.{ℕ, zero, suc, ◌+◌, ◌≡◌, Bool, List, [], ◌∷◌, ltb}
+use Rattle.lent.specs.Write.{Pen as Place, Text, none, byte, lit, ◌▹◌, when, each, codes, Wrote}
+use Rattle.lent.specs.Pens.{place_of}
+use Rattle.lent.specs.declared.Pen.{Pen}
 use Rattle.ink.specs.Ink as ink
 use Rattle.decimal.specs.Text.{text_of}
 
@@ -55,5 +57,10 @@ render level (choose test a b) = when test (render level a) (render level b)
 render level (loop n f) = each n (λ i. render level (f i))
 
 -- what a function that prints items ensures: from p, with the items written at a level, comes q
-pub record Listed (p : Pen) (level : ℕ) (items : Items) (q : Pen) : Type 0 where
+pub record Listed (p : Place) (level : ℕ) (items : Items) (q : Place) : Type 0 where
   pub wrote : Wrote p (render level items) q
+
+-- the same of a pen
+pub record Printed (p : Pen) (level : ℕ) (items : Items) (q : Pen) : Type 0 where
+  pub same : q.out.ghost_name ≡ p.out.ghost_name
+  pub listed : Listed (place_of p) level items (place_of q)

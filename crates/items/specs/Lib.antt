@@ -1,2 +1,3 @@
 -- What the contracts of `items` cite
 pub mod Items
+pub mod Words

@@ -3,3 +3,4 @@ pub mod Cases
 pub mod Places
 pub mod Once
 pub mod Enough
+mod Numbers

@@ -7,28 +7,33 @@ use Rattle.tfm.specs.declared.Layout.{Layout}
 use Rattle.settle.specs.Settle.{Step}
 use Rattle.settle.specs.Needs.{det}
 use Rattle.gather.specs.Answers.{count, SmallestAs}
-use Rattle.gather.specs.declared.Smallest.{Smallest}
-use Rattle.gather.specs.declared.Smallest.TheVariants.{Loop as LoopOn, NoLoop}
+use Rattle.std.proofs.Common.{Result, Ok, Err, Option, Some, None}
+use Rattle.tfm.specs.declared.refusal.Refusal.{Refusal}
+use Rattle.gather.specs.declared.Pair.{Pair}
 use Rattle.gather.proofs.Once.{one_smallest}
 use Rattle.judge.specs.Judge.{Answer, PairSays, mended_program, Loop, no_loop, loop_at, LoopIs, Judged, refused, too_few, too_long, judged, Paired, unasked, no_room, leaves, loops}
 use Rattle.judge.specs.Inside.{loop_of}
 
 -- the loop as the search for the smallest answers it
-abbrev found_of : Loop → Smallest
-found_of no_loop = NoLoop
-found_of (loop_at x y) = LoopOn x y
+abbrev found_of : Loop → Option Pair
+found_of no_loop = None
+found_of (loop_at x y) = Some (record { left = x; right = y })
+
+abbrev loop_in : Result (Option Pair) Refusal → Loop
+loop_in (Ok s) = loop_of s
+loop_in (Err r) = no_loop
 
 back : (a : Loop) → loop_of (found_of a) ≡ a
 back no_loop = refl
 back (loop_at x y) = refl
 
-as_found : (S : ℕ → ℕ → Step) (a : Loop) → LoopIs S a → SmallestAs S (count S) (found_of a)
+as_found : (S : ℕ → ℕ → Step) (a : Loop) → LoopIs S a → SmallestAs S (count S) (Ok (found_of a))
 as_found S no_loop h = (omega arith, h)
 as_found S (loop_at x y) h = (omega arith, h)
 
 one_loop : (S : ℕ → ℕ → Step) (a b : Loop) → LoopIs S a → LoopIs S b → a ≡ b
 one_loop S a b h k =
-    sym (back a) ∙ ap loop_of (one_smallest S (count S) (found_of a) (found_of b) (as_found S a h) (as_found S b k)) ∙ back b
+    sym (back a) ∙ ap loop_in (one_smallest S (count S) (Ok (found_of a)) (Ok (found_of b)) (as_found S a h) (as_found S b k)) ∙ back b
 
 module _ {f : List ℕ} {l : Layout} {c g p : List ℕ} where
   pub once_judged : {a b : Answer} {c' c'' g' g'' p' p'' : List ℕ}

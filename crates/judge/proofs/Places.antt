@@ -9,6 +9,8 @@ use lib.Dec.{ltb}
 use lib.ListN.{length, length-append}
 use borrow.Author.Tests.{lt-ltb, le-ltb}
 use Rattle.lent.specs.Write.{Text, pen, ◌▹◌, flat, Wrote, Ended, fitted, overflowed}
+use Rattle.lent.specs.Pens.{Written}
+use Rattle.lent.specs.declared.Pen.{Pen}
 use Rattle.lent.proofs.Ends.{ended}
 use Rattle.lent.proofs.Writes.{seq}
 
@@ -38,32 +40,34 @@ any_of a b c d e g x y z p q r =
       ]
     ]
 
--- six parts, one after the other: whether the second, the fourth or the sixth has a byte
-pub any_part : {o o1 o2 o3 o4 o5 o6 : List ℕ} {a b c d e g : ℕ} {t1 t2 t3 t4 t5 t6 : Text}
-    → Wrote (pen o 0) t1 (pen o1 a)
-    → Wrote (pen o1 a) t2 (pen o2 b)
-    → Wrote (pen o2 b) t3 (pen o3 c)
-    → Wrote (pen o3 c) t4 (pen o4 d)
-    → Wrote (pen o4 d) t5 (pen o5 e)
-    → Wrote (pen o5 e) t6 (pen o6 g)
-    → length (flat (t1 ▹ t2 ▹ t3 ▹ t4 ▹ t5 ▹ t6)) ≤ length o
-    → ltb a b || ltb c d || ltb e g ≡ ltb 0 (length (flat (t2 ▹ t4 ▹ t6)))
-any_part {a = a} {b = b} {c = c} {d = d} {e = e} {g = g} {t1 = t1} {t2 = t2} {t3 = t3} {t4 = t4} {t5 = t5} {t6 = t6} w1 w2 w3 w4 w5 w6 fits =
-    let v2 = seq w2 w1 in
-    let v3 = seq w3 v2 in
-    let v4 = seq w4 v3 in
-    let v5 = seq w5 v4 in
-    let v6 = seq w6 v5 in
+-- six parts, one after the other from the start: whether the second, the fourth or the sixth has a byte
+pub any_part : {p p1 p2 p3 p4 p5 p6 : Pen} {t1 t2 t3 t4 t5 t6 : Text}
+    → Written p t1 p1
+    → Written p1 t2 p2
+    → Written p2 t3 p3
+    → Written p3 t4 p4
+    → Written p4 t5 p5
+    → Written p5 t6 p6
+    → p.to ≡ 0
+    → length (flat (t1 ▹ t2 ▹ t3 ▹ t4 ▹ t5 ▹ t6)) ≤ length p.out.now
+    → ltb p1.to p2.to || ltb p3.to p4.to || ltb p5.to p6.to ≡ ltb 0 (length (flat (t2 ▹ t4 ▹ t6)))
+any_part {p} {p1} {p2} {p3} {p4} {p5} {p6} {t1} {t2} {t3} {t4} {t5} {t6} w1 w2 w3 w4 w5 w6 start fits =
+    let v1 = rw start at w1.wrote in
+    let v2 = seq w2.wrote v1 in
+    let v3 = seq w3.wrote v2 in
+    let v4 = seq w4.wrote v3 in
+    let v5 = seq w5.wrote v4 in
+    let v6 = seq w6.wrote v5 in
     let n2 = length_then t1 t2 in
     let n3 = length_then (t1 ▹ t2) t3 in
     let n4 = length_then (t1 ▹ t2 ▹ t3) t4 in
     let n5 = length_then (t1 ▹ t2 ▹ t3 ▹ t4) t5 in
     let n6 = length_then (t1 ▹ t2 ▹ t3 ▹ t4 ▹ t5) t6 in
-    let p1 = placed w1 (omega arith) in
-    let p2 = placed v2 (omega arith) in
-    let p3 = placed v3 (omega arith) in
-    let p4 = placed v4 (omega arith) in
-    let p5 = placed v5 (omega arith) in
-    let p6 = placed v6 fits in
+    let q1 = placed v1 (omega arith) in
+    let q2 = placed v2 (omega arith) in
+    let q3 = placed v3 (omega arith) in
+    let q4 = placed v4 (omega arith) in
+    let q5 = placed v5 (omega arith) in
+    let q6 = placed v6 fits in
     rw (length_then (t2 ▹ t4) t6, length_then t2 t4)
-    (any_of a b c d e g (length (flat t2)) (length (flat t4)) (length (flat t6)) (omega arith) (omega arith) (omega arith))
+    (any_of p1.to p2.to p3.to p4.to p5.to p6.to (length (flat t2)) (length (flat t4)) (length (flat t6)) (omega arith) (omega arith) (omega arith))

@@ -1,5 +1,5 @@
 -- What the inspection of a file answers: the numbers 1 to 15, the verdict with the findings and the mended copy, and the outcome of one pair.
-use Rattle.std.specs.Prelude.{ℕ, ◌*◌, ◌<◌, ◌≤◌, ◌≡◌, Bool, cond, ◌||◌, List, ◌++◌, ltb, length, drop, replicate}
+use Rattle.std.specs.Prelude.{ℕ, ◌*◌, ◌<◌, ◌≤◌, ◌≡◌, Bool, cond, ◌||◌, List, ◌++◌, ltb, length, drop, replicate, Result, Ok, Err, Option, Some, None}
 use Rattle.lent.specs.Answer.{first}
 use Rattle.lent.specs.Write.{Text, none, ◌▹◌, flat}
 use Rattle.tfm.specs.Sizes.{number_of}
@@ -10,10 +10,11 @@ use Rattle.mend.specs.Copy.{mended}
 use Rattle.settle.specs.Settle.{Step, Settles, Loops}
 use Rattle.gather.specs.Steps.{program_steps}
 use Rattle.gather.specs.Answers.{count, SmallestLoop}
-use Rattle.judge.specs.declared.Judgement.{Judgement}
-use Rattle.judge.specs.declared.Judgement.TheVariants.{Refused, Clean, Mended, Looping}
-use Rattle.judge.specs.declared.PairAnswer.{PairAnswer}
-use Rattle.judge.specs.declared.PairAnswer.TheVariants.{NoOutcome, Leaves, Loops as LoopsOn}
+use Rattle.tfm.specs.Refusal.{number}
+use Rattle.tfm.specs.declared.refusal.Refusal.{Refusal}
+use Rattle.judge.specs.declared.verdicts.Judgement.{Judgement}
+use Rattle.judge.specs.declared.verdicts.Verdict.{Verdict as Given}
+use Rattle.judge.specs.declared.verdicts.Verdict.TheVariants.{Clean, Mended, Looping}
 
 -- 01's number, verdict and length of the findings, and the outcome of a pair; a refusal brings its number, every other number 0 and no verdict or outcome
 pub data Verdict : Type 0 where
@@ -25,11 +26,14 @@ pub data Verdict : Type 0 where
 pub data Answer : Type 0 where
   answer : ℕ → Verdict → ℕ → Answer
 
-abbrev pub answer_of : Judgement → Answer
-answer_of (Refused n) = answer n no_verdict 0
-answer_of (Clean length) = answer 0 clean length
-answer_of (Mended length) = answer 0 mended_so length
-answer_of (Looping length) = answer 0 looping length
+abbrev pub verdict_in : Given → Verdict
+verdict_in Clean = clean
+verdict_in Mended = mended_so
+verdict_in Looping = looping
+
+abbrev pub answer_of : Result Judgement Refusal → Answer
+answer_of (Ok judgement) = answer 0 (verdict_in judgement.verdict) judgement.findings
+answer_of (Err refusal) = answer (number refusal) no_verdict 0
 
 pub data Outcome : Type 0 where
   no_outcome : Outcome
@@ -39,10 +43,10 @@ pub data Outcome : Type 0 where
 pub data PairSays : Type 0 where
   says : ℕ → Outcome → PairSays
 
-abbrev pub pair_says : PairAnswer → PairSays
-pair_says (NoOutcome n) = says n no_outcome
-pair_says (Leaves w) = says 0 (code w)
-pair_says LoopsOn = says 0 never
+abbrev pub pair_says : Result (Option ℕ) Refusal → PairSays
+pair_says (Ok (Some w)) = says 0 (code w)
+pair_says (Ok None) = says 0 never
+pair_says (Err refusal) = says (number refusal) no_outcome
 
 -- 13: the copy buffer c is shorter than 4·lf
 abbrev pub too_short : Layout → List ℕ → ℕ

@@ -16,7 +16,7 @@ use Rattle.lent.specs.Write.{Pen, pen, Text, none, byte, lit, ◌▹◌, when, e
 use Rattle.lent.specs.Fold.{iterate}
 
 -- to write two texts, one after the other, is to write them as one
-puts_append : (p : Pen) (s t : List ℕ) → puts p (s ++ t) ≡ puts (puts p s) t
+pub puts_append : (p : Pen) (s t : List ℕ) → puts p (s ++ t) ≡ puts (puts p s) t
 unfolding puts
 puts_append p [] t = refl
 puts_append p (b ∷ s) t = puts_append (put1 p b) s t
@@ -58,7 +58,7 @@ unfolding puts
 puts_past [] l = refl
 puts_past (b ∷ s) l = rw (put_out l (length l + 1) b (omega arith)) (puts_past s l)
 
-abbrev place : Pen → ℕ
+abbrev pub place : Pen → ℕ
 place (pen l at) = at
 
 puts_out : (s l : List ℕ) (at : ℕ) → at ≤ length l → length l < at + length s → place (puts (pen l at) s) ≡ length l + 1
@@ -78,7 +78,7 @@ fits t l h =
 over : (t : Text) (l : List ℕ) → length l < length (flat t) → place (run (pen l 0) t) ≡ length l + 1
 over t l h = rw (run_flat (pen l 0) t) (puts_out (flat t) l 0 (omega arith) (omega arith))
 
-abbrev held : Pen → List ℕ
+abbrev pub held : Pen → List ℕ
 held (pen l at) = l
 
 put_keeps : (p : Pen) (b : ℕ) → length (held (put1 p b)) ≡ length (held p)

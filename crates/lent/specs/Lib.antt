@@ -2,4 +2,5 @@
 pub mod Answer
 pub mod Fold
 pub mod Part
+pub mod Pens
 pub mod Write

@@ -1,6 +1,6 @@
 -- Where programs start, and the labels of a step: 003 §63 to §69, §72.
-use Rattle.std.specs.Prelude.{ℕ, Bool, List, [], ◌∷◌, eqb, get_or, set, replicate}
-use Rattle.lent.specs.Fold.{iterate, tabulate}
+use Rattle.std.specs.Prelude.{ℕ, ◌≡◌, ◌<◌, Bool, true, List, [], ◌∷◌, eqb, get_or}
+use Rattle.lent.specs.Fold.{tabulate}
 use Rattle.lent.specs.Write.{codes}
 use Rattle.tfm.specs.declared.Layout.{Layout}
 use Rattle.program.specs.Steps.{program_of}
@@ -10,12 +10,9 @@ use Rattle.items.specs.Items.{raw, code, Items, empty, leaf, ◌▸◌, choose, 
 unfoldable pub starts_of : List ℕ → List ℕ → Layout → List ℕ
 starts_of infos s l = tabulate (program_of infos s l) 257
 
--- Below, starts is that table. A step carries a label if a program starts there: 1, else 0.
-abbrev pub carry : List ℕ → List ℕ → ℕ → List ℕ
-carry starts t c = set t (get_or starts c 0) 1
-
-unfoldable pub labelled : List ℕ → List ℕ
-labelled starts = iterate (carry starts) (replicate 32768 0) 257
+-- Below, starts is that table. The flags of the steps at which programs start are set.
+pub record Carries (starts : List ℕ) (flags : List Bool) : Type 0 where
+  pub each : (c : ℕ) → c < 257 → get_or flags (get_or starts c 0) true ≡ true
 
 -- §72: the labels of step i, the boundary's first and the others in ascending order of code
 unfoldable pub label_item : Bool → List ℕ → ℕ → ℕ → Items

@@ -21,6 +21,18 @@ kern_item letters kerns y r =
     (leaf (codes "KRN") (code letters y ∷ real (word_of kerns r) ∷ []))
     (leaf (codes "KRN") (code letters y ∷ raw (codes "R 0.0") ∷ []))
 
+-- §77: a ligature's name, by its code
+abbrev pub ligature_name : ℕ → List ℕ
+ligature_name op =
+    cond (eqb op 1) (codes "LIG/")
+    (cond (eqb op 2) (codes "/LIG")
+    (cond (eqb op 3) (codes "/LIG/")
+    (cond (eqb op 5) (codes "LIG/>")
+    (cond (eqb op 6) (codes "/LIG>")
+    (cond (eqb op 7) (codes "/LIG/>")
+    (cond (eqb op 11) (codes "/LIG/>>")
+    (codes "LIG")))))))
+
 -- §77: a ligature of code op, with the character y, that inserts z
 unfoldable pub ligature_item : Bool → ℕ → ℕ → ℕ → Items
 ligature_item letters op y z =
@@ -56,6 +68,9 @@ tail_item m i skip =
 
 -- §71, §73: the n steps from i on are unused, but for those that are passed through
 module _ (letters : Bool) (s kerns m : List ℕ) where
+  abbrev pub unused_at : ℕ → Items
+  unused_at k = choose (eqb (get_or m k 0) 1) empty (step_item letters s kerns k)
+
   unfoldable pub unused_step : ℕ → ℕ → Items
   unused_step i j = choose (eqb (get_or m (i + j) 0) 1) empty (step_item letters s kerns (i + j))
 

@@ -1,80 +1,75 @@
 // Where programs start, and the labels of a step.
 ghost use Rattle.std.specs.Prelude.{◌≡◌};
-ghost use Rattle.lent.specs.Fold.{iterate};
-ghost use Rattle.lent.specs.Write.{pen};
-ghost use Rattle.items.specs.Items.{loop, Listed};
-ghost use Rattle.ligatures.specs.Labels.{starts_of, carry, labelled, label_item, boundary_label, label_items};
+ghost use Rattle.items.specs.Items.{loop, Printed};
+ghost use Rattle.ligatures.specs.Labels.{Carries, label_item, boundary_label, label_items};
+ghost use Rattle.ligatures.specs.Programs.{starts_in};
 
-use tfm::Layout;
+use items::Word;
+use lent::Pen;
+use tfm::Font;
 
 // The start of each code's program, that of the left boundary last.
-pub fn starts_of(infos: &[u8], s: &[u8], l: Layout) -> [u32; 257]
-    ensures { result ≡ starts_of infos.now s.now l }
+pub fn starts_of(font: &Font) -> [u32; 257]
+    ensures { result ≡ starts_in font.now }
 {
     let mut starts = [0u32; 257];
-    for c in 0..257u32 {
-        starts[c as usize] = program::program_start(infos, s, l, c);
+    for (code, start) in starts.iter_mut().enumerate() {
+        *start = program::program_start(font, code as u32);
     }
     starts
 }
 
-fn carry(starts: &[u32], t: &mut [u8], c: usize)
-    ensures { t.new ≡ carry starts.now t.old c }
+// Flags of which those at the starts are set. A code that the table of starts doesn't have counts as one at step 0, so the codes are counted.
+pub fn carried(starts: &[u32]) -> [bool; 32768]
+    ensures { Carries starts.now result }
 {
-    lent::store(t, lent::number_at(starts, c) as usize, 1);
-}
-
-fn carry_all(starts: &[u32], t: &mut [u8])
-    ensures { t.new ≡ iterate (carry starts.now) t.old 257 }
-{
+    let mut carries = [false; 32768];
     for c in 0..257usize {
-        carry(starts, t, c);
+        lent::store(&mut carries, lent::at(starts, c, 0) as usize, true);
+    }
+    carries
+}
+
+fn put_label(pen: &mut Pen, letters: bool, starts: &[u32], i: u32, c: u8)
+    ensures { Printed pen.old 1 (label_item letters starts.now i c) pen.new }
+{
+    if lent::at(starts, c as usize, 0) == i {
+        items::put_leaf(pen, 1, b"LABEL", &[Word::Code(letters, c)]);
     }
 }
 
-// The steps that carry a label.
-pub fn labelled(starts: &[u32]) -> [u8; 32768]
-    ensures { result ≡ labelled starts.now }
+fn put_code_labels(pen: &mut Pen, letters: bool, starts: &[u32], i: u32)
+    ensures { Printed pen.old 1 (loop 256 (label_item letters starts.now i)) pen.new }
 {
-    let mut t = [0u8; 32768];
-    carry_all(starts, &mut t);
-    t
-}
-
-fn put_label(out: &mut [u8], to: usize, letters: bool, starts: &[u32], i: u32, c: u8) -> usize
-    ensures { Listed (pen out.old to) 1 (label_item letters starts.now i c) (pen out.new result) }
-{
-    if lent::number_at(starts, c as usize) == i {
-        items::leaf_code(out, to, 1, b"LABEL", letters, c)
-    } else {
-        to
+    for c in 0..=255u8 {
+        put_label(pen, letters, starts, i, c);
     }
 }
 
-fn put_code_labels(out: &mut [u8], to: usize, letters: bool, starts: &[u32], i: u32) -> usize
-    ensures { Listed (pen out.old to) 1 (loop 256 (label_item letters starts.now i)) (pen out.new result) }
+fn put_boundary_label(pen: &mut Pen, starts: &[u32], i: u32)
+    ensures { Printed pen.old 1 (boundary_label starts.now i) pen.new }
 {
-    let mut to = to;
-    for c in 0..256u32 {
-        to = put_label(out, to, letters, starts, i, c as u8);
-    }
-    to
-}
-
-fn put_boundary_label(out: &mut [u8], to: usize, starts: &[u32], i: u32) -> usize
-    ensures { Listed (pen out.old to) 1 (boundary_label starts.now i) (pen out.new result) }
-{
-    if lent::number_at(starts, 256) == i {
-        items::leaf_raw(out, to, 1, b"LABEL", b"BOUNDARYCHAR")
-    } else {
-        to
+    if lent::at(starts, 256, 0) == i {
+        items::put_leaf(pen, 1, b"LABEL", &[Word::Raw(b"BOUNDARYCHAR")]);
     }
 }
 
-// The labels of step i.
-pub fn put_each_label(out: &mut [u8], to: usize, letters: bool, starts: &[u32], i: u32) -> usize
-    ensures { Listed (pen out.old to) 1 (label_items letters starts.now i) (pen out.new result) }
-{
-    let to = put_boundary_label(out, to, starts, i);
-    put_code_labels(out, to, letters, starts, i)
+// The starts of the programs, and a flag for each step that carries a label.
+#[derive(Clone, Copy)]
+pub struct Labels<'a> {
+    pub starts: &'a [u32],
+    pub carries: &'a [bool],
+    pub ghost agree: { Carries starts.now carries.now },
+}
+
+impl<'a> Labels<'a> {
+    // The labels of step i: the codes are searched only where the step carries one.
+    pub fn put(&self, pen: &mut Pen, letters: bool, i: u32)
+        ensures { Printed pen.old 1 (label_items letters self.now.starts.now i) pen.new }
+    {
+        if lent::at(self.carries, i as usize, true) {
+            put_boundary_label(pen, self.starts, i);
+            put_code_labels(pen, letters, self.starts, i);
+        }
+    }
 }

@@ -4,297 +4,174 @@
 mod labels;
 mod steps;
 
-ghost use Rattle.std.specs.Prelude.{◌≡◌, [], ◌+◌, ◌-◌, ◌<◌, ◌≤◌};
-ghost use Rattle.lent.specs.Write.{pen, codes};
-ghost use Rattle.items.specs.Items.{group, loop, Listed};
-ghost use Rattle.ligatures.specs.Labels.{labelled, label_items};
-ghost use Rattle.ligatures.specs.Ligatures.{boundary_item, accessible_item, unused_step, unused, piece, run_end, piece_end, pieces, ligtable, following, program_from, program_comment};
+ghost use Rattle.std.specs.Prelude.{◌≡◌, ◌-◌, ◌<◌};
+ghost use Rattle.items.specs.Items.{Printed};
+ghost use Rattle.ligatures.specs.Ligatures.{boundary_item, run_end, piece_end, following};
+ghost use Rattle.ligatures.specs.Programs.{unused_at_of, unused_steps_of, unused_of, accessible_of, piece_of, pieces_of, table_of, ligtable_of, program_in, comment_in};
 
+use items::Word;
+use labels::Labels;
 pub use labels::starts_of;
+use lent::Pen;
+use tfm::Font;
 
-pub fn put_boundary(out: &mut [u8], to: usize, letters: bool, s: &[u8]) -> usize
-    ensures { Listed (pen out.old to) 0 (boundary_item letters s.now) (pen out.new result) }
-{
-    let c = tfm::byte_of(s, 0, 1);
-    if tfm::byte_of(s, 0, 0) == 255 {
-        items::leaf_code(out, to, 0, b"BOUNDARYCHAR", letters, c)
-    } else {
-        to
-    }
+// What a program is printed from: whether characters stand by their letters, the font, and the marks of its steps.
+#[derive(Clone, Copy)]
+pub struct Program<'a> {
+    pub letters: bool,
+    pub font: &'a Font<'a>,
+    pub marks: &'a [u8],
 }
 
-// The labels of step i: the codes are searched only where the step carries one.
-fn put_labels(
-    out: &mut [u8],
-    to: usize,
-    letters: bool,
-    starts: &[u32],
-    carries: &[u8],
-    i: u32,
-) -> usize
-    requires { carries.now ≡ labelled starts.now }
-    ensures { Listed (pen out.old to) 1 (label_items letters starts.now i) (pen out.new result) }
+// The right boundary character. Letters and font come one by one, since they stand in a `Program` here and in a `Setting` in listing. (That the steps are bytes tells none, which the clause of boundary_char gives as 256, from a character.)
+pub fn put_boundary(pen: &mut Pen, letters: bool, font: &Font)
+    ensures { Printed pen.old 0 (boundary_item letters font.now.steps.now) pen.new }
 {
-    if i < 32768 {
-        if lent::at(carries, i as usize) == 0 {
-            return to;
-        }
+    lent::holds_bytes(font.steps);
+    if let Some(c) = program::boundary_char(font.steps) {
+        items::put_leaf(pen, 0, b"BOUNDARYCHAR", &[Word::Code(letters, c)]);
     }
-    labels::put_each_label(out, to, letters, starts, i)
 }
 
 // An accessible step, with its labels and what follows it.
-fn put_accessible(
-    out: &mut [u8],
-    to: usize,
-    letters: bool,
-    s: &[u8],
-    kerns: &[u8],
-    m: &[u8],
-    starts: &[u32],
-    carries: &[u8],
-    i: u32,
-) -> usize
-    requires { carries.now ≡ labelled starts.now }
-    ensures { Listed (pen out.old to) 1 (accessible_item letters s.now kerns.now m.now starts.now i) (pen out.new result) }
+fn put_accessible(pen: &mut Pen, program: &Program, labels: &Labels, i: u32)
+    ensures { Printed pen.old 1 (accessible_of program.now labels.now.starts.now i) pen.new }
 {
-    let to = put_labels(out, to, letters, starts, carries, i);
-    let to = steps::put_step(out, to, 1, letters, s, kerns, i);
-    let skip = tfm::byte_of(s, i, 0);
-    steps::put_tail(out, to, m, i, skip)
+    labels.put(pen, program.letters, i);
+    steps::put_step(pen, 1, program.letters, program.font, i);
+    let skip = tfm::byte_of(program.font.steps, i, 0);
+    steps::put_tail(pen, program.marks, i, skip);
 }
 
-fn put_unused_step(
-    out: &mut [u8],
-    to: usize,
-    letters: bool,
-    s: &[u8],
-    kerns: &[u8],
-    m: &[u8],
-    i: u32,
-    j: u32,
-) -> usize
-    requires { i + j < 65536 }
-    ensures { Listed (pen out.old to) 2 (unused_step letters s.now kerns.now m.now i j) (pen out.new result) }
+// An unused step, unless it is passed through.
+fn put_unused_step(pen: &mut Pen, program: &Program, i: u32)
+    ensures { Printed pen.old 2 (unused_at_of program.now i) pen.new }
 {
-    if lent::at(m, (i + j) as usize) == 1 {
-        to
-    } else {
-        steps::put_step(out, to, 2, letters, s, kerns, i + j)
+    if lent::at(program.marks, i as usize, 0) != program::PASSED {
+        steps::put_step(pen, 2, program.letters, program.font, i);
     }
 }
 
-fn put_unused_steps(
-    out: &mut [u8],
-    to: usize,
-    letters: bool,
-    s: &[u8],
-    kerns: &[u8],
-    m: &[u8],
-    i: u32,
-    n: u32,
-) -> usize
-    requires { i + n ≤ 65536 }
-    ensures { Listed (pen out.old to) 2 (loop n (unused_step letters s.now kerns.now m.now i)) (pen out.new result) }
+fn put_unused_steps(pen: &mut Pen, program: &Program, i: u32, end: u32)
+    ensures { Printed pen.old 2 (unused_steps_of program.now i (end - i)) pen.new }
 {
-    let mut to = to;
-    for j in 0..n {
-        to = put_unused_step(out, to, letters, s, kerns, m, i, j);
+    for step in i..end {
+        put_unused_step(pen, program, step);
     }
-    to
 }
 
-fn put_unused(
-    out: &mut [u8],
-    to: usize,
-    letters: bool,
-    s: &[u8],
-    kerns: &[u8],
-    m: &[u8],
-    i: u32,
-    n: u32,
-) -> usize
-    requires { i + n ≤ 65536 }
-    ensures { Listed (pen out.old to) 1 (unused letters s.now kerns.now m.now i n) (pen out.new result) }
+// The steps from i up to end, which are unused.
+fn put_unused(pen: &mut Pen, program: &Program, i: u32, end: u32)
+    ensures { Printed pen.old 1 (unused_of program.now i (end - i)) pen.new }
 {
-    let to = items::group_bare(
-        out,
-        to,
+    items::open_group(
+        pen,
         2,
         b"COMMENT THIS PART OF THE PROGRAM IS NEVER USED!",
+        &[],
     );
-    let to = put_unused_steps(out, to, letters, s, kerns, m, i, n);
-    items::put_close(out, to, 1)
+    put_unused_steps(pen, program, i, end);
+    items::put_close(pen, 1);
 }
 
-// What stands at step i, up to step e.
-fn put_piece(
-    out: &mut [u8],
-    to: usize,
-    letters: bool,
-    s: &[u8],
-    kerns: &[u8],
-    m: &[u8],
-    starts: &[u32],
-    carries: &[u8],
-    i: u32,
-    e: u32,
-) -> usize
-    requires carries_value { carries.now ≡ labelled starts.now }
-    requires i_lt_e { i < e }
-    requires e_bound { e ≤ 65536 }
-    ensures { Listed (pen out.old to) 1 (piece letters s.now kerns.now m.now starts.now i e) (pen out.new result) }
+// What stands at step i, up to step end.
+fn put_piece(pen: &mut Pen, program: &Program, labels: &Labels, i: u32, end: u32)
+    ensures { Printed pen.old 1 (piece_of program.now labels.now.starts.now i end) pen.new }
 {
-    let mark = lent::at(m, i as usize);
-    if mark == 0 {
-        put_unused(out, to, letters, s, kerns, m, i, e - i)
-    } else if mark == 1 {
-        to
-    } else {
-        put_accessible(out, to, letters, s, kerns, m, starts, carries, i)
+    match lent::at(program.marks, i as usize, 0) {
+        program::UNREACHABLE => put_unused(pen, program, i, end),
+        program::PASSED => {}
+        _ => put_accessible(pen, program, labels, i),
     }
 }
 
-// The first accessible step from i on, or nl.
-fn run_end(m: &[u8], nl: u32, i: u32) -> u32
-    ensures { result ≡ run_end m.now (nl - i) i }
+// The first accessible step from i on, or nl, where the next piece then starts.
+fn run_end(marks: &[u8], nl: u32, i: u32) -> u32
+    ensures { result ≡ run_end marks.now (nl - i) i }
 {
-    let mut i = i;
-    while i < nl {
-        if lent::at(m, i as usize) == 2 {
-            return i;
-        }
-        i += 1;
-    }
-    i
+    (i..nl)
+        .find(|&step| lent::at(marks, step as usize, 0) == program::ACCESSIBLE)
+        .unwrap_or(nl.max(i))
 }
 
 // Where a piece ends that starts at step i.
-fn piece_end(m: &[u8], nl: u32, i: u32) -> u32
+#[tactic(auto, unfolding(crate::specs::Ligatures::piece_end))]
+fn piece_end(marks: &[u8], nl: u32, i: u32) -> u32
     requires { i < nl }
-    ensures { result ≡ piece_end m.now nl i }
+    ensures { result ≡ piece_end marks.now nl i }
 {
-    if lent::at(m, i as usize) == 0 {
-        run_end(m, nl, i + 1)
+    if lent::at(marks, i as usize, 0) == program::UNREACHABLE {
+        run_end(marks, nl, i + 1)
     } else {
         i + 1
     }
 }
 
-fn put_pieces(
-    out: &mut [u8],
-    to: usize,
-    letters: bool,
-    s: &[u8],
-    kerns: &[u8],
-    m: &[u8],
-    starts: &[u32],
-    carries: &[u8],
-    nl: u32,
-) -> usize
-    requires carries_value { carries.now ≡ labelled starts.now }
-    requires nl_bound { nl ≤ 65536 }
-    ensures { Listed (pen out.old to) 1 (pieces letters s.now kerns.now m.now starts.now nl) (pen out.new result) }
+// The steps, piece by piece: where the next piece starts is known only at this one, so the step is counted by hand.
+fn put_pieces(pen: &mut Pen, program: &Program, labels: &Labels)
+    ensures { Printed pen.old 1 (pieces_of program.now labels.now.starts.now) pen.new }
 {
-    let mut to = to;
-    let mut i: u32 = 0;
+    let nl = program.font.layout.nl as u32;
+    let mut i = 0;
     while i < nl {
-        let e = piece_end(m, nl, i);
-        to = put_piece(out, to, letters, s, kerns, m, starts, carries, i, e);
-        i = e;
+        let end = piece_end(program.marks, nl, i);
+        put_piece(pen, program, labels, i, end);
+        i = end;
     }
-    to
 }
 
-fn put_table(
-    out: &mut [u8],
-    to: usize,
-    letters: bool,
-    s: &[u8],
-    kerns: &[u8],
-    m: &[u8],
-    starts: &[u32],
-    nl: u32,
-) -> usize
-    requires { nl ≤ 65536 }
-    ensures { Listed (pen out.old to) 0 (group (codes "LIGTABLE") [] (pieces letters s.now kerns.now m.now starts.now nl)) (pen out.new result) }
+fn put_table(pen: &mut Pen, program: &Program, starts: &[u32])
+    ensures { Printed pen.old 0 (table_of program.now starts.now) pen.new }
 {
-    let carries = labels::labelled(starts);
-    let to = items::group_bare(out, to, 1, b"LIGTABLE");
-    let to = put_pieces(out, to, letters, s, kerns, m, starts, &carries, nl);
-    items::put_close(out, to, 0)
+    let labels = Labels {
+        starts,
+        carries: &labels::carried(starts),
+    };
+    items::open_group(pen, 1, b"LIGTABLE", &[]);
+    put_pieces(pen, program, &labels);
+    items::put_close(pen, 0);
 }
 
-pub fn put_ligtable(
-    out: &mut [u8],
-    to: usize,
-    letters: bool,
-    s: &[u8],
-    kerns: &[u8],
-    m: &[u8],
-    starts: &[u32],
-    nl: u16,
-) -> usize
-    ensures { Listed (pen out.old to) 0 (ligtable letters s.now kerns.now m.now starts.now nl) (pen out.new result) }
+// The table of the program, where there is one, with the labels at the starts.
+pub fn put_ligtable(pen: &mut Pen, program: &Program, starts: &[u32])
+    ensures { Printed pen.old 0 (ligtable_of program.now starts.now) pen.new }
 {
-    if nl == 0 {
-        to
-    } else {
-        put_table(out, to, letters, s, kerns, m, starts, nl as u32)
+    if program.font.layout.nl != 0 {
+        put_table(pen, program, starts);
     }
 }
 
 // The step after step i, or nl.
-fn following(s: &[u8], nl: u32, i: u32) -> u32
-    requires { i < 65536 }
-    ensures { result ≡ following s.now nl i }
+#[tactic(auto, unfolding(crate::specs::Ligatures::following, program::specs::Steps::next_of))]
+fn following(font: &Font, i: u16) -> u32
+    ensures { result ≡ following font.now.steps.now font.now.layout.nl i }
 {
-    let skip = tfm::byte_of(s, i, 0);
-    if 128 <= skip {
-        nl
+    if 128 <= tfm::byte_of(font.steps, i as u32, 0) {
+        font.layout.nl as u32
     } else {
-        i + 1 + (skip as u32)
+        program::next_step(font.steps, i as u32) as u32
     }
 }
 
-// The steps of a program from step i on, until the text no longer fits.
-fn put_program(
-    out: &mut [u8],
-    to: usize,
-    letters: bool,
-    s: &[u8],
-    kerns: &[u8],
-    nl: u32,
-    i: u32,
-) -> usize
-    requires { nl ≤ 65536 }
-    ensures { Listed (pen out.old to) 2 (program_from letters s.now kerns.now nl i) (pen out.new result) }
+// The steps of a program from step i on, until the text no longer fits: each says where the next is, so the step is counted by hand.
+fn put_program(pen: &mut Pen, letters: bool, font: &Font, i: u32)
+    ensures { Printed pen.old 2 (program_in letters font.now i) pen.new }
 {
-    let mut to = to;
     let mut i = i;
-    while i < nl {
-        if to == out.len() + 1 {
-            return to;
+    while i < font.layout.nl as u32 {
+        if pen.has_overflowed() {
+            return;
         }
-        to = steps::put_step(out, to, 2, letters, s, kerns, i);
-        i = following(s, nl, i);
+        steps::put_step(pen, 2, letters, font, i);
+        i = following(font, i as u16);
     }
-    to
 }
 
 // The program from step i on as a comment.
-pub fn put_comment(
-    out: &mut [u8],
-    to: usize,
-    letters: bool,
-    s: &[u8],
-    kerns: &[u8],
-    nl: u16,
-    i: u32,
-) -> usize
-    ensures { Listed (pen out.old to) 1 (program_comment letters s.now kerns.now nl i) (pen out.new result) }
+pub fn put_comment(pen: &mut Pen, letters: bool, font: &Font, i: u32)
+    ensures { Printed pen.old 1 (comment_in letters font.now i) pen.new }
 {
-    let to = items::group_bare(out, to, 2, b"COMMENT");
-    let to = put_program(out, to, letters, s, kerns, nl as u32, i);
-    items::put_close(out, to, 1)
+    items::open_group(pen, 2, b"COMMENT", &[]);
+    put_program(pen, letters, font, i);
+    items::put_close(pen, 1);
 }

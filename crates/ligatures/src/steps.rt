@@ -1,150 +1,87 @@
 // One step of the ligature program.
-ghost use Rattle.std.specs.Prelude.{◌≡◌, [], ◌∷◌, ◌+◌, ◌≤◌};
-ghost use Rattle.lent.specs.Write.{pen, codes};
-ghost use Rattle.items.specs.Items.{Word, leaf, Listed};
-ghost use Rattle.ligatures.specs.Ligatures.{kern_item, ligature_item, step_item, count_step, skipped, tail_item};
+ghost use Rattle.std.specs.Prelude.{◌≡◌};
+ghost use Rattle.items.specs.Items.{Printed};
+ghost use Rattle.ligatures.specs.Ligatures.{ligature_name, kern_item, ligature_item, step_item, skipped, tail_item};
 
-fn put_kern_of(out: &mut [u8], to: usize, level: usize, letters: bool, y: u8, word: u32) -> usize
-    ensures { Listed (pen out.old to) level (leaf (codes "KRN") (Word.code letters y ∷ Word.real word ∷ [])) (pen out.new result) }
-{
-    let to = items::put_name(out, to, b"KRN");
-    let to = items::put_code(out, to, letters, y);
-    let to = items::put_real(out, to, word);
-    items::put_close(out, to, level)
-}
+use items::Word;
+use lent::Pen;
+use tfm::Font;
 
-fn put_no_kern(out: &mut [u8], to: usize, level: usize, letters: bool, y: u8) -> usize
-    ensures { Listed (pen out.old to) level (leaf (codes "KRN") (Word.code letters y ∷ Word.raw (codes "R 0.0") ∷ [])) (pen out.new result) }
+// A kern with the character y, by entry r of the kerns. (That an index is in its table is asked here and in listing, since what is printed where
+// it is not differs by table.)
+fn put_kern(pen: &mut Pen, level: usize, letters: bool, kerns: &[u8], y: u8, r: u32)
+    ensures { Printed pen.old level (kern_item letters kerns.now y r) pen.new }
 {
-    let to = items::put_name(out, to, b"KRN");
-    let to = items::put_code(out, to, letters, y);
-    let to = items::put_raw(out, to, b"R 0.0");
-    items::put_close(out, to, level)
-}
-
-fn put_kern(
-    out: &mut [u8],
-    to: usize,
-    level: usize,
-    letters: bool,
-    kerns: &[u8],
-    y: u8,
-    r: u32,
-) -> usize
-    ensures { Listed (pen out.old to) level (kern_item letters kerns.now y r) (pen out.new result) }
-{
-    let word = tfm::word_of(kerns, r);
+    let char = Word::Code(letters, y);
     if (r as usize) < kerns.len() / 4 {
-        put_kern_of(out, to, level, letters, y, word)
+        let word = tfm::word_of(kerns, r);
+        items::put_leaf(pen, level, b"KRN", &[char, Word::Real(word)]);
     } else {
-        put_no_kern(out, to, level, letters, y)
+        items::put_leaf(pen, level, b"KRN", &[char, Word::Raw(b"R 0.0")]);
     }
 }
 
-fn put_named(
-    out: &mut [u8],
-    to: usize,
-    level: usize,
-    letters: bool,
-    name: &[u8],
-    y: u8,
-    z: u8,
-) -> usize
-    ensures { Listed (pen out.old to) level (leaf name.now (Word.code letters y ∷ Word.code letters z ∷ [])) (pen out.new result) }
-{
-    let to = items::put_name(out, to, name);
-    let to = items::put_code(out, to, letters, y);
-    let to = items::put_code(out, to, letters, z);
-    items::put_close(out, to, level)
-}
-
-fn put_ligature(
-    out: &mut [u8],
-    to: usize,
-    level: usize,
-    letters: bool,
-    op: u8,
-    y: u8,
-    z: u8,
-) -> usize
-    ensures { Listed (pen out.old to) level (ligature_item letters op y z) (pen out.new result) }
+// By the byte of the step, which any font may have: a number with no name is LIG.
+fn ligature_name(op: u8) -> &'static [u8]
+    ensures { result.now ≡ ligature_name op }
 {
     match op {
-        1 => put_named(out, to, level, letters, b"LIG/", y, z),
-        2 => put_named(out, to, level, letters, b"/LIG", y, z),
-        3 => put_named(out, to, level, letters, b"/LIG/", y, z),
-        5 => put_named(out, to, level, letters, b"LIG/>", y, z),
-        6 => put_named(out, to, level, letters, b"/LIG>", y, z),
-        7 => put_named(out, to, level, letters, b"/LIG/>", y, z),
-        11 => put_named(out, to, level, letters, b"/LIG/>>", y, z),
-        _ => put_named(out, to, level, letters, b"LIG", y, z),
+        1 => b"LIG/",
+        2 => b"/LIG",
+        3 => b"/LIG/",
+        5 => b"LIG/>",
+        6 => b"/LIG>",
+        7 => b"/LIG/>",
+        11 => b"/LIG/>>",
+        _ => b"LIG",
     }
 }
 
-pub fn put_step(
-    out: &mut [u8],
-    to: usize,
-    level: usize,
-    letters: bool,
-    s: &[u8],
-    kerns: &[u8],
-    i: u32,
-) -> usize
-    ensures { Listed (pen out.old to) level (step_item letters s.now kerns.now i) (pen out.new result) }
+// A ligature of code op, with the character y, that inserts z.
+fn put_ligature(pen: &mut Pen, level: usize, letters: bool, op: u8, y: u8, z: u8)
+    ensures { Printed pen.old level (ligature_item letters op y z) pen.new }
 {
-    let skip = tfm::byte_of(s, i, 0);
-    let y = tfm::byte_of(s, i, 1);
-    let op = tfm::byte_of(s, i, 2);
-    let z = tfm::byte_of(s, i, 3);
-    let r = lent::minus(program::address(s, i), 32768);
+    let words = [Word::Code(letters, y), Word::Code(letters, z)];
+    items::put_leaf(pen, level, ligature_name(op), &words);
+}
+
+pub fn put_step(pen: &mut Pen, level: usize, letters: bool, font: &Font, i: u32)
+    ensures { Printed pen.old level (step_item letters font.now.steps.now font.now.kerns.now i) pen.new }
+{
+    let skip = tfm::byte_of(font.steps, i, 0);
+    let y = tfm::byte_of(font.steps, i, 1);
+    let op = tfm::byte_of(font.steps, i, 2);
+    let z = tfm::byte_of(font.steps, i, 3);
     if 128 < skip {
-        to
-    } else if 128 <= op {
-        put_kern(out, to, level, letters, kerns, y, r)
-    } else {
-        put_ligature(out, to, level, letters, op, y, z)
+        return;
     }
-}
-
-// One more, if the step j after the next is accessible.
-fn count_step(m: &[u8], i: u32, n: u32, j: u8) -> u32
-    requires { n ≤ 255 }
-    ensures { (result ≡ count_step m.now i n j) × (result ≤ n + 1) }
-{
-    if lent::at(m, (i as usize) + 1 + (j as usize)) == 2 {
-        n + 1
+    if 128 <= op {
+        let r = program::address(font.steps, i).saturating_sub(32768);
+        put_kern(pen, level, letters, font.kerns, y, r);
     } else {
-        n
+        put_ligature(pen, level, letters, op, y, z);
     }
 }
 
 // The accessible steps among the n after step i.
-fn skipped(m: &[u8], i: u32, n: u8) -> u32
-    ensures { result ≡ skipped m.now i n }
+fn skipped(marks: &[u8], i: u32, n: u8) -> u32
+    ensures { result ≡ skipped marks.now i n }
 {
-    let mut count: u32 = 0;
-    for j in 0..n {
-        count = count_step(m, i, count, j);
-    }
-    count
-}
-
-fn put_skip(out: &mut [u8], to: usize, m: &[u8], i: u32, skip: u8) -> usize
-    ensures { Listed (pen out.old to) 1 (leaf (codes "SKIP") (Word.dec (skipped m.now i skip) ∷ [])) (pen out.new result) }
-{
-    let n = skipped(m, i, skip);
-    items::leaf_dec(out, to, 1, b"SKIP", n)
+    (0..n)
+        .filter(|&j| lent::at(marks, i as usize + 1 + (j as usize), 0) == program::ACCESSIBLE)
+        .count() as u32
 }
 
 // SKIP, STOP or nothing, after step i.
-pub fn put_tail(out: &mut [u8], to: usize, m: &[u8], i: u32, skip: u8) -> usize
-    ensures { Listed (pen out.old to) 1 (tail_item m.now i skip) (pen out.new result) }
+pub fn put_tail(pen: &mut Pen, marks: &[u8], i: u32, skip: u8)
+    ensures { Printed pen.old 1 (tail_item marks.now i skip) pen.new }
 {
     if skip == 0 {
-        to
-    } else if 128 <= skip {
-        items::leaf_bare(out, to, 1, b"STOP")
+        return;
+    }
+    if 128 <= skip {
+        items::put_leaf(pen, 1, b"STOP", &[]);
     } else {
-        put_skip(out, to, m, i, skip)
+        items::put_leaf(pen, 1, b"SKIP", &[Word::Dec(skipped(marks, i, skip))]);
     }
 }

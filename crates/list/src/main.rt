@@ -1,25 +1,11 @@
 // The list program: reads a TFM file on standard input, and writes its listing, or "REFUSED n" and a newline.
 #![tactic(auto)]
 
-use listing::ListAnswer;
 use std::io;
-use std::io::Read;
+use tfm::Refusal;
 
-fn print(rt: &impl Print, text: &[u8]) -> io::Result<()> {
-    rt.write_all(text)
-}
-
-fn print_refusal(rt: &impl Print, number: u8) -> io::Result<()> {
-    println!(rt; "REFUSED {number}")
-}
-
-fn print_answer(rt: &impl Print, answer: ListAnswer, out: &[u8]) -> io::Result<()> {
-    match answer {
-        ListAnswer::Refused(number) => print_refusal(rt, number),
-        ListAnswer::Clean(_, text) => print(rt, lent::part(out, 0, text)),
-        ListAnswer::Mended(_, text) => print(rt, lent::part(out, 0, text)),
-        ListAnswer::Looping(_, text) => print(rt, lent::part(out, 0, text)),
-    }
+fn print_refusal(rt: &impl Print, refusal: Refusal) -> io::Result<()> {
+    println!(rt; "REFUSED {}", refusal.number())
 }
 
 fn print_listing(rt: &impl Print, file: &[u8]) -> io::Result<()> {
@@ -27,24 +13,19 @@ fn print_listing(rt: &impl Print, file: &[u8]) -> io::Result<()> {
     let mut findings = [0u8; 7000];
     let mut pairs = [0u32; 5000];
     let mut out = [0u8; 65536];
-    let answer = listing::listing(file, &mut copy, &mut findings, &mut pairs, &mut out);
-    print_answer(rt, answer, &out)
-}
-
-// Reads until the buffer is full or the input ends, and returns how many bytes there are.
-fn read_full(input: &mut impl Read, buffer: &mut [u8]) -> io::Result<usize> {
-    let length = buffer.len() as u64;
-    let mut rest = buffer;
-    Ok(io::copy(&mut input.take(length), &mut rest)? as usize)
+    match listing::listing(file, &mut copy, &mut findings, &mut pairs, &mut out) {
+        Ok(listing) => rt.write_all(lent::part(&out, 0, listing.text)),
+        Err(refusal) => print_refusal(rt, refusal),
+    }
 }
 
 // One byte more than is listed tells a file that is too long.
 fn main(rt: HostRuntime) -> io::Result<()> {
-    let mut input = [0u8; 65537];
-    let n = read_full(&mut rt.stdin(), &mut input)?;
+    let mut buffer = [0u8; 65537];
+    let n = input::read_full(&mut rt.stdin(), &mut buffer)?;
     if 65536 < n {
-        print_refusal(&rt, 13)
+        print_refusal(&rt, Refusal::ShortCopy)
     } else {
-        print_listing(&rt, lent::part(&input, 0, n))
+        print_listing(&rt, &buffer[..n])
     }
 }

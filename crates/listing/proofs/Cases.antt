@@ -1,24 +1,27 @@
 -- The returns of `listing`, over plain lists.
-use Prim.Native.Nat.{ℕ, ◌*◌, ◌<◌, ◌≤◌}
+use Prim.Native.Nat.{ℕ, ◌+◌, ◌*◌}
 use native.Mathlib.Omega.{arith}
-use mathlib.Core.Path.{◌≡◌, refl, sym, ap, ◌∙◌}
-use mathlib.Core.Bool.{Bool, true, false, cond, true≢false}
+use mathlib.Core.Path.{◌≡◌, refl, ap}
+use mathlib.Core.Bool.{Bool, true, false, cond}
 use mathlib.Core.List.{List, ◌++◌}
 use lib.Dec.{ltb}
 use lib.ListN.{length, take, drop, replicate}
 use lib.Seq.{take-append_seam}
-use Rattle.lent.specs.Write.{pen, Ended, fitted, overflowed}
+use Rattle.lent.specs.Write.{pen, Wrote, Ended, fitted, overflowed}
+use Rattle.lent.specs.Pens.{place_of}
+use Rattle.lent.specs.declared.Pen.{Pen}
 use Rattle.lent.proofs.Ends.{ended, keeps}
+use Rattle.tfm.specs.Refusal.{number as number_of}
 use Rattle.tfm.specs.declared.Layout.{Layout}
+use Rattle.tfm.specs.declared.refusal.Refusal.{Refusal}
+use Rattle.tfm.proofs.Refusals.{number_positive}
 use Rattle.mend.specs.Copy.{mended}
 use Rattle.mend.proofs.Back.{copy_length}
-use Rattle.judge.specs.Judge.{Verdict, no_verdict, clean, mended_so, looping, Answer, answer, answer_of, Loop, no_loop, loop_at, verdict_of, too_short, judge_number, zeros, Judged, refused, too_few, too_long, judged}
-use Rattle.judge.specs.declared.Judgement.{Judgement}
-use Rattle.judge.specs.declared.Judgement.TheVariants.{Refused, Clean, Mended, Looping}
-use Rattle.items.specs.Items.{render, Listed}
+use Rattle.judge.specs.Judge.{Verdict, no_verdict, clean, mended_so, looping, Answer, answer, Loop, no_loop, loop_at, verdict_of, too_short, judge_number, zeros, Judged, refused, too_few, too_long, judged}
+use Rattle.items.specs.Items.{render, Printed}
 use Rattle.listing.specs.Listing as to
 use Rattle.listing.specs.Listing.{property_list, listing_text, says, ListedAs}
-use Rattle.listing.specs.Inside.{number_in, verdict_in, saying, items_in}
+use Rattle.listing.specs.Inside.{items_in}
 
 -- the parts of an answer
 abbrev pub number : Answer → ℕ
@@ -62,49 +65,29 @@ module _ (f : List ℕ) (l : Layout) (c g p : List ℕ) where
       rw (k.copy, ← copy_length f l (too_short l c) k.accepted) (take-append_seam _ _)
 
   module _ (o : List ℕ) {c' g' p' : List ℕ} where
-    pub refused_case : {n : ℕ} (j : Judgement) → Judged f l c g p (answer_of j) c' g' p' → n ≡ number_in j → (n ≡ 0 → ⊥) → ListedAs f l c g p o (says n no_verdict 0 0) c' g' p' (cond (ltb n 14) o (zeros o))
-    unfolding number_in
-    refused_case (Refused n) h e k = rw e (to.refused (λ z. k (e ∙ z)) h)
-    refused_case (Clean n) h e k = absurd (k e)
-    refused_case (Mended n) h e k = absurd (k e)
-    refused_case (Looping n) h e k = absurd (k e)
+    pub refused_case : (r : Refusal) → Judged f l c g p (answer (number_of r) no_verdict 0) c' g' p'
+        → ListedAs f l c g p o (says (number_of r) no_verdict 0 0) c' g' p' (cond (ltb (number_of r) 14) o (zeros o))
+    refused_case r h = to.refused (λ z. omega (arith, number_positive r, z)) h
 
-    module _ {v : Verdict} {n r : ℕ} {o' : List ℕ} (h : Judged f l c g p (answer 0 v n) c' g' p') (w : Listed (pen o 0) 0 (items_in f l c' v) (pen o' r)) where
-      text_ends : Ended (render 0 (property_list f l v)) o o' r
-      text_ends = ended (rw (begins (passed h refl)) at w.wrote)
+    -- what is printed from the start of o, where the judgement stands
+    module _ {v : Verdict} {n : ℕ} (h : Judged f l c g p (answer 0 v n) c' g' p') (s q : Pen) (start : place_of s ≡ pen o 0) (w : Printed s 0 (items_in f l c' v) q) where
+      wrote : Wrote (pen o 0) (render 0 (property_list f l v)) (pen q.out.now q.to)
+      wrote = rw (start, begins (passed h refl)) at w.listed.wrote
 
-      long : length o' < r → length c' ≡ length c → length g' ≡ length g → ListedAs f l c g p o (says 16 no_verdict 0 0) (zeros c') (zeros g') p' (zeros o')
+      -- 16, of buffers that are still to be wiped
+      pub long_case : {c'' g'' o' : List ℕ} → c'' ≡ zeros c' → g'' ≡ zeros g' → o' ≡ zeros q.out.now → length c' ≡ length c → length g' ≡ length g
+          → q.to ≡ length q.out.now + 1 → ListedAs f l c g p o (says 16 no_verdict 0 0) c'' g'' p' o'
       unfolding listing_text
-      long k sc sg = go text_ends
+      long_case ec eg eo sc sg past = rw (ec, eg, eo, zeros_for c c' sc, zeros_for g g' sg, zeros_for o q.out.now (keeps wrote), (passed h refl).room) (go (ended wrote))
         where
-          go : Ended (render 0 (property_list f l v)) o o' r → ListedAs f l c g p o (says 16 no_verdict 0 0) (zeros c') (zeros g') p' (zeros o')
-          go (fitted q z t) = absurd (omega (arith, keeps w.wrote))
-          go (overflowed q z t) =
-              rw (zeros_for c c' sc, zeros_for g g' sg, zeros_for o o' (keeps w.wrote), (passed h refl).room) (to.too_long h q)
+          go : Ended (render 0 (property_list f l v)) o q.out.now q.to → ListedAs f l c g p o (says 16 no_verdict 0 0) (zeros c) (zeros g) (zeros p) (zeros o)
+          go (fitted y z t) = absurd (omega (arith, keeps wrote))
+          go (overflowed y z t) = to.too_long h y
 
-      fits : r ≤ length o' → ListedAs f l c g p o (says 0 v n r) c' g' p' o'
+      pub fits_case : {o' : List ℕ} → o' ≡ q.out.now → (q.to ≡ length q.out.now + 1 → ⊥) → ListedAs f l c g p o (says 0 v n q.to) c' g' p' o'
       unfolding listing_text
-      fits k = go text_ends
+      fits_case eo k = rw eo (go (ended wrote))
         where
-          go : Ended (render 0 (property_list f l v)) o o' r → ListedAs f l c g p o (says 0 v n r) c' g' p' o'
-          go (fitted q z t) = rw (z, t) (to.listed h q)
-          go (overflowed q z t) = absurd (omega (arith, keeps w.wrote))
-
-    -- a refusal has a number
-    no_refusal : {n : ℕ} {A : Type 0} → Judged f l c g p (answer n no_verdict 0) c' g' p' → n ≡ 0 → A
-    no_refusal h e = absurd (true≢false (sym (passed h e).there))
-
-    module _ {r : ℕ} {o' : List ℕ} where
-      pub long_case : (j : Judgement) → Judged f l c g p (answer_of j) c' g' p' → number_in j ≡ 0 → Listed (pen o 0) 0 (items_in f l c' (verdict_in j)) (pen o' r) → length o' < r → length c' ≡ length c → length g' ≡ length g → ListedAs f l c g p o (says 16 no_verdict 0 0) (zeros c') (zeros g') p' (zeros o')
-      unfolding number_in verdict_in
-      long_case (Refused n) h e w = no_refusal h e
-      long_case (Clean n) h e w = long h w
-      long_case (Mended n) h e w = long h w
-      long_case (Looping n) h e w = long h w
-
-      pub fits_case : (j : Judgement) → Judged f l c g p (answer_of j) c' g' p' → number_in j ≡ 0 → Listed (pen o 0) 0 (items_in f l c' (verdict_in j)) (pen o' r) → r ≤ length o' → ListedAs f l c g p o (saying j r) c' g' p' o'
-      unfolding number_in verdict_in saying
-      fits_case (Refused n) h e w = no_refusal h e
-      fits_case (Clean n) h e w = fits h w
-      fits_case (Mended n) h e w = fits h w
-      fits_case (Looping n) h e w = fits h w
+          go : Ended (render 0 (property_list f l v)) o q.out.now q.to → ListedAs f l c g p o (says 0 v n q.to) c' g' p' q.out.now
+          go (fitted y z t) = rw (z, t) (to.listed h y)
+          go (overflowed y z t) = absurd (omega (arith, keeps wrote))

@@ -2,3 +2,4 @@
 pub mod Characters
 pub mod Listing
 pub mod Inside
+pub mod Settings

@@ -1,11 +1,11 @@
 -- The listing of a file: the property list of its mended copy, and what `listing` answers with lent buffers.
-use Rattle.std.specs.Prelude.{ℕ, ◌<◌, ◌≤◌, ◌≡◌, Bool, true, false, cond, List, [], ◌++◌, ltb, length, drop}
+use Rattle.std.specs.Prelude.{ℕ, ◌<◌, ◌≤◌, ◌≡◌, Bool, true, false, cond, List, [], ◌++◌, ltb, length, drop, Result, Ok, Err}
 use Rattle.lent.specs.Write.{codes, flat}
 use Rattle.tfm.specs.Subfiles.{table_of}
 use Rattle.tfm.specs.declared.Layout.{Layout}
 use Rattle.program.specs.Marks.{marks_of}
 use Rattle.mend.specs.Copy.{mended}
-use Rattle.judge.specs.Judge.{Verdict, no_verdict, clean, mended_so, looping, answer, Judged, zeros}
+use Rattle.judge.specs.Judge.{Verdict, no_verdict, clean, mended_so, looping, verdict_in, answer, Judged, zeros}
 use Rattle.items.specs.Items.{Items, empty, leaf, ◌▸◌, choose, render}
 use Rattle.header.specs.Header.{kind_of, letters_in, header_items}
 use Rattle.header.specs.Parameters.{fontdimen}
@@ -13,8 +13,9 @@ use Rattle.header.specs.declared.Kind.{Kind}
 use Rattle.ligatures.specs.Labels.{starts_of}
 use Rattle.ligatures.specs.Ligatures.{boundary_item, ligtable}
 use Rattle.listing.specs.Characters.{character_items}
-use Rattle.listing.specs.declared.ListAnswer.{ListAnswer}
-use Rattle.listing.specs.declared.ListAnswer.TheVariants.{Refused, Clean, Mended, Looping}
+use Rattle.tfm.specs.Refusal.{number}
+use Rattle.tfm.specs.declared.refusal.Refusal.{Refusal}
+use Rattle.listing.specs.declared.answer.Listing.{Listing}
 
 -- Of a copy c, its sizes l, its kind of font and the starts of its programs: §99, what stands before the characters; m are the marks of the file's steps
 unfoldable pub opening_items : List ℕ → Layout → List ℕ → Kind → List ℕ → Items
@@ -56,11 +57,9 @@ listing_text f l verdict = flat (render 0 (property_list f l verdict))
 pub data Says : Type 0 where
   says : ℕ → Verdict → ℕ → ℕ → Says
 
-abbrev pub says_of : ListAnswer → Says
-says_of (Refused n) = says n no_verdict 0 0
-says_of (Clean findings text) = says 0 clean findings text
-says_of (Mended findings text) = says 0 mended_so findings text
-says_of (Looping findings text) = says 0 looping findings text
+abbrev pub says_of : Result Listing Refusal → Says
+says_of (Ok listing) = says 0 (verdict_in listing.verdict) listing.findings listing.text
+says_of (Err refusal) = says (number refusal) no_verdict 0 0
 
 -- The listing of the file f of the sizes l, with the buffers c for the copy, g for the findings, p for the pairs and o for the listing lent, and what they hold after.
 pub data ListedAs (f : List ℕ) (l : Layout) (c g p o : List ℕ) : Says → List ℕ → List ℕ → List ℕ → List ℕ → Type 0 where

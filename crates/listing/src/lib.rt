@@ -1,193 +1,146 @@
 // The listing of a file: the property list of its mended copy, on lent buffers.
 #![tactic(auto)]
 
+mod answer;
 mod characters;
 
 ghost use Rattle.std.specs.Prelude.{◌≡◌, cond, ltb};
-ghost use Rattle.lent.specs.Write.{pen};
+ghost use Rattle.tfm.specs.Refusal.{number};
 ghost use Rattle.tfm.specs.Sizes.{layout_of};
-ghost use Rattle.items.specs.Items.{Listed};
-ghost use Rattle.judge.specs.Judge.{zeros};
-ghost use Rattle.listing.specs.Listing.{opening_items, closing_comment, characters_then, closing_items, items_for, items_of, says_of, ListedAs};
-ghost use Rattle.listing.specs.Inside.{number_in, verdict_in, saying, items_in};
+ghost use Rattle.items.specs.Items.{◌▸◌, Printed};
+ghost use Rattle.judge.specs.Judge.{verdict_in, zeros};
+ghost use Rattle.listing.specs.Listing.{closing_comment, items_of, says_of, ListedAs};
+ghost use Rattle.listing.specs.Inside.{items_in};
+ghost use Rattle.listing.specs.Settings.{opening_of, characters_of, closing_of};
 
+pub use answer::Listing;
+use characters::Setting;
 use header::Kind;
-use judge::Judgement;
-use tfm::Layout;
-
-// The answer's number, or the verdict with the lengths of the findings and of the listing in bytes.
-#[derive(Clone, Copy)]
-pub enum ListAnswer {
-    Refused(u8),
-    Clean(usize, usize),
-    Mended(usize, usize),
-    Looping(usize, usize),
-}
+use judge::Verdict;
+use lent::Pen;
+use ligatures::Program;
+use tfm::{Font, Layout, Refusal};
 
 // The header, the parameters, the boundary character and the ligature table.
-fn put_opening(
-    out: &mut [u8],
-    to: usize,
-    copy: &[u8],
-    l: Layout,
-    m: &[u8],
-    kind: Kind,
-    starts: &[u32],
-) -> usize
-    ensures { Listed (pen out.old to) 0 (opening_items copy.now l m.now kind starts.now) (pen out.new result) }
+fn put_opening(pen: &mut Pen, font: &Font, marks: &[u8], kind: Kind, starts: &[u32])
+    ensures { Printed pen.old 0 (opening_of font.now marks.now kind starts.now) pen.new }
 {
-    let h = tfm::table(copy, l, 0);
-    let s = tfm::table(copy, l, 6);
-    let kerns = tfm::table(copy, l, 7);
-    let params = tfm::table(copy, l, 9);
     let letters = header::letters_in(kind);
-    let to = header::put_header(out, to, h, l);
-    let to = header::parameters::put_fontdimen(out, to, kind, params, l.np);
-    let to = ligatures::put_boundary(out, to, letters, s);
-    ligatures::put_ligtable(out, to, letters, s, kerns, m, starts, l.nl)
+    let program = Program {
+        letters,
+        font,
+        marks,
+    };
+    header::put_header(pen, font);
+    header::parameters::put_fontdimen(pen, kind, font);
+    ligatures::put_boundary(pen, letters, font);
+    ligatures::put_ligtable(pen, &program, starts);
 }
 
-fn put_closing_comment(out: &mut [u8], to: usize, mended: bool) -> usize
-    ensures { Listed (pen out.old to) 0 (closing_comment mended) (pen out.new result) }
+fn put_closing_comment(pen: &mut Pen, mended: bool)
+    ensures { Printed pen.old 0 (closing_comment mended) pen.new }
 {
     if mended {
-        items::leaf_bare(
-            out,
-            to,
+        items::put_leaf(
+            pen,
             0,
             b"COMMENT THE TFM FILE WAS BAD, SO THE DATA HAS BEEN CHANGED!",
-        )
-    } else {
-        to
+            &[],
+        );
     }
 }
 
 // The characters, and whether the file was mended.
-fn put_characters_then(
-    out: &mut [u8],
-    to: usize,
-    copy: &[u8],
-    l: Layout,
-    kind: Kind,
-    starts: &[u32],
-    mended: bool,
-) -> usize
-    ensures { Listed (pen out.old to) 0 (characters_then copy.now l kind starts.now mended) (pen out.new result) }
+fn put_characters_then(pen: &mut Pen, setting: &Setting, mended: bool)
+    ensures { Printed pen.old 0 (characters_of setting.now ▸ closing_comment mended) pen.new }
 {
-    let letters = header::letters_in(kind);
-    let to = characters::put_characters(out, to, letters, copy, l, starts);
-    put_closing_comment(out, to, mended)
+    setting.put_characters(pen);
+    put_closing_comment(pen, mended);
 }
 
 // What stands after the ligature table, by the verdict.
-fn put_closing(
-    out: &mut [u8],
-    to: usize,
-    copy: &[u8],
-    l: Layout,
-    kind: Kind,
-    starts: &[u32],
-    judgement: Judgement,
-) -> usize
-    ensures { Listed (pen out.old to) 0 (closing_items copy.now l kind starts.now (verdict_in judgement)) (pen out.new result) }
+fn put_closing(pen: &mut Pen, setting: &Setting, verdict: Verdict)
+    ensures { Printed pen.old 0 (closing_of setting.now (verdict_in verdict)) pen.new }
 {
-    match judgement {
-        Judgement::Refused(_) => to,
-        Judgement::Clean(_) => put_characters_then(out, to, copy, l, kind, starts, false),
-        Judgement::Mended(_) => put_characters_then(out, to, copy, l, kind, starts, true),
-        Judgement::Looping(_) => items::leaf_bare(
-            out,
-            to,
-            0,
-            b"INFINITE LIGATURE LOOP MUST BE BROKEN!",
-        ),
+    match verdict {
+        Verdict::Clean => put_characters_then(pen, setting, false),
+        Verdict::Mended => put_characters_then(pen, setting, true),
+        Verdict::Looping => {
+            items::put_leaf(pen, 0, b"INFINITE LIGATURE LOOP MUST BE BROKEN!", &[])
+        }
     }
 }
 
-fn put_items(
-    out: &mut [u8],
-    copy: &[u8],
-    l: Layout,
-    m: &[u8],
-    kind: Kind,
-    starts: &[u32],
-    judgement: Judgement,
-) -> usize
-    ensures { Listed (pen out.old 0) 0 (items_for copy.now l m.now kind starts.now (verdict_in judgement)) (pen out.new result) }
+// The property list of the 4·lf bytes that are the copy, whose tables are cut once.
+fn put_copy(pen: &mut Pen, copy: &[u8], layout: Layout, marks: &[u8], verdict: Verdict)
+    ensures { Printed pen.old 0 (items_of copy.now layout marks.now (verdict_in verdict)) pen.new }
 {
-    let to = put_opening(out, 0, copy, l, m, kind, starts);
-    put_closing(out, to, copy, l, kind, starts, judgement)
+    let font = tfm::tables_of(copy, layout);
+    let kind = header::kind_of(&font);
+    let starts = ligatures::starts_of(&font);
+    let setting = Setting {
+        letters: header::letters_in(kind),
+        font: &font,
+        starts: &starts,
+    };
+    put_opening(pen, &font, marks, kind, &starts);
+    put_closing(pen, &setting, verdict);
 }
 
-// The property list of the 4·lf bytes that are the copy.
-fn put_copy(out: &mut [u8], copy: &[u8], l: Layout, m: &[u8], judgement: Judgement) -> usize
-    ensures { Listed (pen out.old 0) 0 (items_of copy.now l m.now (verdict_in judgement)) (pen out.new result) }
+// Not in line in `listing`: its flags and marks would lie on the stack beside those of the verdict.
+#[inline(never)]
+fn put_listing(pen: &mut Pen, file: &[u8], layout: Layout, copy: &[u8], verdict: Verdict)
+    ensures { Printed pen.old 0 (items_in file.now layout copy.now (verdict_in verdict)) pen.new }
 {
-    let kind = header::kind_of(tfm::table(copy, l, 0), l);
-    let starts = ligatures::starts_of(tfm::table(copy, l, 1), tfm::table(copy, l, 6), l);
-    put_items(out, copy, l, m, kind, &starts, judgement)
-}
-
-fn put_listing(out: &mut [u8], file: &[u8], l: Layout, copy: &[u8], judgement: Judgement) -> usize
-    ensures { Listed (pen out.old 0) 0 (items_in file.now l copy.now (verdict_in judgement)) (pen out.new result) }
-{
-    let m = program::marks(tfm::table(file, l, 1), tfm::table(file, l, 6), l);
-    let bytes = lent::part(copy, 0, 4 * (l.lf as usize));
-    put_copy(out, bytes, l, &m, judgement)
-}
-
-fn number_in(judgement: Judgement) -> u8
-    ensures { result ≡ number_in judgement }
-{
-    match judgement {
-        Judgement::Refused(n) => n,
-        Judgement::Clean(_) => 0,
-        Judgement::Mended(_) => 0,
-        Judgement::Looping(_) => 0,
-    }
-}
-
-fn with_text(judgement: Judgement, text: usize) -> ListAnswer
-    ensures { says_of result ≡ saying judgement text }
-{
-    match judgement {
-        Judgement::Refused(n) => ListAnswer::Refused(n),
-        Judgement::Clean(n) => ListAnswer::Clean(n, text),
-        Judgement::Mended(n) => ListAnswer::Mended(n, text),
-        Judgement::Looping(n) => ListAnswer::Looping(n, text),
-    }
+    let font = tfm::tables_of(file, layout);
+    let bytes = lent::part(copy, 0, 4 * (layout.lf as usize));
+    put_copy(pen, bytes, layout, &program::marks(&font), verdict);
 }
 
 // 14 and 15 leave the listing's buffer all zeros too.
-fn refuse(number: u8, out: &mut [u8])
-    ensures { out.new ≡ cond (ltb number 14) out.old (zeros out.old) }
+fn refuse(refusal: Refusal, out: &mut [u8])
+    ensures { out.new ≡ cond (ltb (number refusal) 14) out.old (zeros out.old) }
 {
-    if 14 <= number {
-        lent::wipe(out);
+    if 14 <= refusal.number() {
+        out.fill(0);
     }
 }
 
+// What is lent comes one by one, as C lends it and README names it.
 pub fn listing(
     file: &[u8],
     copy: &mut [u8],
     findings: &mut [u8],
     pairs: &mut [u32],
     out: &mut [u8],
-) -> ListAnswer
+) -> Result<Listing, Refusal>
     ensures { ListedAs file.now (layout_of file.now) copy.old findings.old pairs.old out.old (says_of result) copy.new findings.new pairs.new out.new }
 {
-    let judgement = judge::verdict(file, copy, findings, pairs);
-    let number = number_in(judgement);
-    if number != 0 {
-        refuse(number, out);
-        return ListAnswer::Refused(number);
+    let judgement = match judge::verdict(file, copy, findings, pairs) {
+        Ok(judgement) => judgement,
+        Err(refusal) => {
+            refuse(refusal, out);
+            return Err(refusal);
+        }
+    };
+    let mut pen = Pen::new(out);
+    put_listing(
+        &mut pen,
+        file,
+        tfm::read_layout(file),
+        copy,
+        judgement.verdict,
+    );
+    let text = pen.end();
+    if pen.has_overflowed() {
+        copy.fill(0);
+        findings.fill(0);
+        out.fill(0);
+        return Err(Refusal::ListingDoesNotFit);
     }
-    let end = put_listing(out, file, tfm::read_layout(file), copy, judgement);
-    if out.len() < end {
-        lent::wipe(copy);
-        lent::wipe(findings);
-        lent::wipe(out);
-        return ListAnswer::Refused(16);
-    }
-    with_text(judgement, end)
+    Ok(Listing {
+        verdict: judgement.verdict,
+        findings: judgement.findings,
+        text,
+    })
 }

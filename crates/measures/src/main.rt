@@ -5,7 +5,7 @@
 #![tactic(auto)]
 
 use std::io;
-use std::io::Read;
+use tfm::Refusal;
 
 const MARKED: [u32; 11] = [
     0x0000_0000,
@@ -21,88 +21,64 @@ const MARKED: [u32; 11] = [
     0x8000_0000,
 ];
 
-fn print(rt: &impl Print, text: &[u8]) -> io::Result<()> {
-    rt.write_all(text)
-}
-
-fn print_number(rt: &impl Print, n: u64) -> io::Result<()> {
-    print!(rt; " {n}")
-}
-
-fn print_decimal_of(rt: &impl Print, word: u32) -> io::Result<()> {
-    let d = decimal::decimal(word);
-    let bytes = d.bytes;
+fn print_decimal(rt: &impl Print, word: u32) -> io::Result<()> {
+    let decimal = decimal::decimal(word);
     print!(rt; "{word:08x} ")?;
-    print(rt, lent::part(&bytes, 0, d.len))?;
-    print(rt, b"\n")
+    rt.write_all(decimal.text())?;
+    println!(rt;)
 }
 
 fn print_marked(rt: &impl Print) -> io::Result<()> {
-    for i in 0..11usize {
-        print_decimal_of(rt, MARKED[i])?;
-    }
-    Ok(())
-}
-
-fn print_twelve(rt: &impl Print, sizes: [u16; 12]) -> io::Result<()> {
-    for i in 0..12usize {
-        print_number(rt, sizes[i] as u64)?;
+    for word in MARKED {
+        print_decimal(rt, word)?;
     }
     Ok(())
 }
 
 fn print_sizes(rt: &impl Print, file: &[u8]) -> io::Result<()> {
     let answer = tfm::sizes(file);
-    let sizes = answer.sizes;
-    print(rt, b"SIZES")?;
-    print_number(rt, answer.number as u64)?;
-    print_twelve(rt, sizes)?;
-    print(rt, b"\n")
+    print!(rt; "SIZES {}", answer.number)?;
+    for size in answer.sizes {
+        print!(rt; " {size}")?;
+    }
+    println!(rt;)
 }
 
-fn print_subfile(rt: &impl Print, file: &[u8], k: u8) -> io::Result<()> {
-    let bytes = tfm::subfile(file, k);
-    let last = lent::part(bytes, bytes.len() - lent::least(1, bytes.len()), 1);
-    print(rt, b"SUBFILE")?;
-    print_number(rt, k as u64)?;
-    print_number(rt, tfm::subfile_number(file, k) as u64)?;
-    print_number(rt, bytes.len() as u64)?;
-    print_number(rt, lent::at(bytes, 0) as u64)?;
-    print_number(rt, lent::at(last, 0) as u64)?;
-    print(rt, b"\n")
+// The number of an answer, and the part that was asked for, which is empty on refusal.
+fn print_part(rt: &impl Print, k: u8, part: Result<&[u8], Refusal>) -> io::Result<()> {
+    let number = tfm::number_of(&part);
+    let bytes = part.unwrap_or(b"");
+    let first = bytes.first().copied().unwrap_or(0);
+    let last = bytes.last().copied().unwrap_or(0);
+    println!(rt; "SUBFILE {k} {number} {} {first} {last}", bytes.len())
 }
 
 fn print_subfiles(rt: &impl Print, file: &[u8]) -> io::Result<()> {
     for k in 0..11u8 {
-        print_subfile(rt, file, k)?;
+        print_part(rt, k, tfm::try_subfile(file, k))?;
     }
     Ok(())
 }
 
 // The bits of a float that is a number.
 fn bits(x: f64) -> u64 {
-    if x == x { f64::to_bits(x) } else { 0 }
+    if x.is_nan() { 0 } else { x.to_bits() }
 }
 
-fn print_bits(rt: &impl Print, x: f64) -> io::Result<()> {
-    let b = bits(x);
-    print!(rt; " {b:016x}")
+fn print_bits(rt: &impl Print, number: u8, code: u32, lengths: [f64; 4]) -> io::Result<()> {
+    print!(rt; "EYE {code} {number}")?;
+    for length in lengths {
+        print!(rt; " {:016x}", bits(length))?;
+    }
+    println!(rt;)
 }
 
 fn print_eye_lengths(rt: &impl Print, file: &[u8], code: u32) -> io::Result<()> {
-    let answer = tfm::eye_lengths(file, code);
-    let lengths = answer.lengths;
-    if answer.number == 18 {
-        return Ok(());
+    match tfm::eye_lengths(file, code) {
+        Ok(lengths) => print_bits(rt, 0, code, lengths.into()),
+        Err(Refusal::NoCharacter) => Ok(()),
+        Err(refusal) => print_bits(rt, refusal.number(), code, [0.0; 4]),
     }
-    print(rt, b"EYE")?;
-    print_number(rt, code as u64)?;
-    print_number(rt, answer.number as u64)?;
-    print_bits(rt, lengths.width)?;
-    print_bits(rt, lengths.height)?;
-    print_bits(rt, lengths.depth)?;
-    print_bits(rt, lengths.italic)?;
-    print(rt, b"\n")
 }
 
 fn print_codes(rt: &impl Print, file: &[u8]) -> io::Result<()> {
@@ -112,17 +88,10 @@ fn print_codes(rt: &impl Print, file: &[u8]) -> io::Result<()> {
     Ok(())
 }
 
-// Reads until the buffer is full or the input ends, and returns how many bytes there are.
-fn read_full(input: &mut impl Read, buffer: &mut [u8]) -> io::Result<usize> {
-    let length = buffer.len() as u64;
-    let mut rest = buffer;
-    Ok(io::copy(&mut input.take(length), &mut rest)? as usize)
-}
-
 fn main(rt: HostRuntime) -> io::Result<()> {
     let mut buffer = [0u8; 262144];
-    let n = read_full(&mut rt.stdin(), &mut buffer)?;
-    let file = lent::part(&buffer, 0, n);
+    let n = input::read_full(&mut rt.stdin(), &mut buffer)?;
+    let file = &buffer[..n];
     print_marked(&rt)?;
     print_sizes(&rt, file)?;
     print_subfiles(&rt, file)?;

@@ -1,11 +1,12 @@
 -- Which findings are there. A finding has a tag t and two numbers, the first a and the second b.
 -- f is the file, infos and s are its tables char_info and lig_kern, m the marks of the steps, and d the table that the tag looks at.
-use Rattle.std.specs.Prelude.{ℕ, ◌+◌, ◌-◌, ◌*◌, Bool, false, cond, ◌&&◌, ◌||◌, List, leb, ltb, eqb, length}
+use Rattle.std.specs.Prelude.{◌≡◌, ℕ, ◌+◌, ◌-◌, ◌*◌, Bool, false, cond, ◌&&◌, ◌||◌, List, leb, ltb, eqb, length}
 use Rattle.lent.specs.Answer.{first}
 use Rattle.tfm.specs.Sizes.{chars}
-use Rattle.tfm.specs.Subfiles.{count_of}
+use Rattle.tfm.specs.Subfiles.{count_of, table_of}
 use Rattle.tfm.specs.Lengths.{too_big}
 use Rattle.tfm.specs.declared.Layout.{Layout}
+use Rattle.tfm.specs.declared.Font.{Font}
 use Rattle.faults.specs.Header.{string_too_long, parenthesis, nonstandard, bad_design_size, unusual_count, bad_parameter, not_zero}
 use Rattle.faults.specs.Steps.{bad_boundary, bad_start, skips_too_far, bad_address, step_for_missing, ligature_to_missing, bad_kern, odd_code}
 use Rattle.faults.specs.Characters.{piece_missing, bad_index, link_missing, ends_cycle, bad_recipe}
@@ -73,3 +74,14 @@ seconds l t a =
     (cond (eqb t 9) (count_of l (table_number t a))
     (cond (eqb t 19 || eqb t 20) 4
     1))
+
+-- the tables of a font are those of the file f, but for char_info and lig_kern, which may be any
+pub record OwnTables (f : List ℕ) (font : Font) : Type 0 where
+  pub header : font.header.now ≡ table_of f font.layout 0
+  pub widths : font.widths.now ≡ table_of f font.layout 2
+  pub heights : font.heights.now ≡ table_of f font.layout 3
+  pub depths : font.depths.now ≡ table_of f font.layout 4
+  pub italics : font.italics.now ≡ table_of f font.layout 5
+  pub kerns : font.kerns.now ≡ table_of f font.layout 7
+  pub recipes : font.recipes.now ≡ table_of f font.layout 8
+  pub params : font.params.now ≡ table_of f font.layout 9

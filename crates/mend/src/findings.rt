@@ -1,177 +1,58 @@
 // The findings of a file, as house records in ascending order of tag, first, second number.
-ghost use Rattle.std.specs.Prelude.{◌+◌, ◌<◌, ◌≤◌};
-ghost use Rattle.lent.specs.Write.{pen, each, Wrote};
-ghost use Rattle.mend.specs.Holds.{lowest};
-ghost use Rattle.mend.specs.Findings.{half, record_of, found, found_at, found_from, found_on, found_after, found_tags};
+ghost use Rattle.lent.specs.Pens.{Written};
+ghost use Rattle.mend.specs.Findings.{half, record_of, found_at, found_on, found_tags};
 
-use crate::holds::{firsts, holds, lowest, seconds, table_number};
-use tfm::Layout;
+use crate::holds::{Looked, firsts, lowest, seconds};
+use lent::Pen;
+use tfm::Font;
 
-fn put_half(out: &mut [u8], to: usize, n: u32) -> usize
-    ensures { Wrote (pen out.old to) (half n) (pen out.new result) }
+// The last two bytes of a number.
+fn put_half(pen: &mut Pen, n: u32)
+    ensures { Written pen.old (half n) pen.new }
 {
-    let to = lent::put(out, to, (n / 256 % 256) as u8);
-    lent::put(out, to, (n % 256) as u8)
+    pen.put_bytes(&((n % 65536) as u16).to_be_bytes());
 }
 
 // A house record: the tag, the length 4, two numbers.
-pub fn put_record(out: &mut [u8], to: usize, t: u32, a: u32, b: u32) -> usize
-    ensures { Wrote (pen out.old to) (record_of t a b) (pen out.new result) }
+pub fn put_record(pen: &mut Pen, tag: u32, first: u32, second: u32)
+    ensures { Written pen.old (record_of tag first second) pen.new }
 {
-    let to = lent::put(out, to, (t % 256) as u8);
-    let to = put_half(out, to, 4);
-    let to = put_half(out, to, a);
-    put_half(out, to, b)
+    pen.put((tag % 256) as u8);
+    put_half(pen, 4);
+    put_half(pen, first);
+    put_half(pen, second);
 }
 
-fn put_found(
-    out: &mut [u8],
-    to: usize,
-    f: &[u8],
-    infos: &[u8],
-    s: &[u8],
-    m: &[u8],
-    l: Layout,
-    d: &[u8],
-    t: u32,
-    a: u32,
-    b: u32,
-) -> usize
-    ensures { Wrote (pen out.old to) (found f.now infos.now s.now m.now l d.now t a b) (pen out.new result) }
+// The findings of a tag with one first number.
+fn put_at(pen: &mut Pen, looked: &Looked, tag: u32, first: u32)
+    ensures { Written pen.old
+        (found_at looked.now.file.now looked.now.font.infos.now looked.now.font.steps.now looked.now.marks.now looked.now.font.layout tag first) pen.new }
 {
-    if holds(f, infos, s, m, d, l, t, a, b) {
-        put_record(out, to, t, a, b)
-    } else {
-        to
+    for second in 0..seconds(looked.font.layout, tag, first) {
+        if looked.holds(tag, first, second) {
+            put_record(pen, tag, first, second);
+        }
     }
-}
-
-fn put_seconds(
-    out: &mut [u8],
-    to: usize,
-    f: &[u8],
-    infos: &[u8],
-    s: &[u8],
-    m: &[u8],
-    l: Layout,
-    d: &[u8],
-    t: u32,
-    a: u32,
-    n: u32,
-) -> usize
-    ensures { Wrote (pen out.old to) (each n (found f.now infos.now s.now m.now l d.now t a)) (pen out.new result) }
-{
-    let mut to = to;
-    for b in 0..n {
-        to = put_found(out, to, f, infos, s, m, l, d, t, a, b);
-    }
-    to
-}
-
-fn put_at(
-    out: &mut [u8],
-    to: usize,
-    f: &[u8],
-    infos: &[u8],
-    s: &[u8],
-    m: &[u8],
-    l: Layout,
-    t: u32,
-    a: u32,
-) -> usize
-    ensures { Wrote (pen out.old to) (found_at f.now infos.now s.now m.now l t a) (pen out.new result) }
-{
-    let d = tfm::table(f, l, table_number(t, a));
-    put_seconds(out, to, f, infos, s, m, l, d, t, a, seconds(l, t, a))
-}
-
-fn put_from(
-    out: &mut [u8],
-    to: usize,
-    f: &[u8],
-    infos: &[u8],
-    s: &[u8],
-    m: &[u8],
-    l: Layout,
-    t: u32,
-    i: u32,
-) -> usize
-    requires { i < 65536 }
-    ensures { Wrote (pen out.old to) (found_from f.now infos.now s.now m.now l t i) (pen out.new result) }
-{
-    put_at(out, to, f, infos, s, m, l, t, (lowest(l, t) as u32) + i)
-}
-
-fn put_firsts(
-    out: &mut [u8],
-    to: usize,
-    f: &[u8],
-    infos: &[u8],
-    s: &[u8],
-    m: &[u8],
-    l: Layout,
-    t: u32,
-    n: u32,
-) -> usize
-    requires { n ≤ 65536 }
-    ensures { Wrote (pen out.old to) (each n (found_from f.now infos.now s.now m.now l t)) (pen out.new result) }
-{
-    let mut to = to;
-    for i in 0..n {
-        to = put_from(out, to, f, infos, s, m, l, t, i);
-    }
-    to
 }
 
 // The findings of a tag.
-fn put_on(
-    out: &mut [u8],
-    to: usize,
-    f: &[u8],
-    infos: &[u8],
-    s: &[u8],
-    m: &[u8],
-    l: Layout,
-    t: u32,
-) -> usize
-    ensures { Wrote (pen out.old to) (found_on f.now infos.now s.now m.now l t) (pen out.new result) }
+fn put_on(pen: &mut Pen, looked: &Looked, tag: u32)
+    ensures { Written pen.old
+        (found_on looked.now.file.now looked.now.font.infos.now looked.now.font.steps.now looked.now.marks.now looked.now.font.layout tag) pen.new }
 {
-    put_firsts(out, to, f, infos, s, m, l, t, firsts(l, t))
-}
-
-fn put_after(
-    out: &mut [u8],
-    to: usize,
-    f: &[u8],
-    infos: &[u8],
-    s: &[u8],
-    m: &[u8],
-    l: Layout,
-    from: u8,
-    i: u8,
-) -> usize
-    ensures { Wrote (pen out.old to) (found_after f.now infos.now s.now m.now l from i) (pen out.new result) }
-{
-    put_on(out, to, f, infos, s, m, l, (from as u32) + (i as u32))
-}
-
-// The findings of n tags.
-pub fn put_findings(
-    out: &mut [u8],
-    to: usize,
-    f: &[u8],
-    infos: &[u8],
-    s: &[u8],
-    m: &[u8],
-    l: Layout,
-    from: u8,
-    n: u8,
-) -> usize
-    ensures { Wrote (pen out.old to) (found_tags f.now infos.now s.now m.now l from n) (pen out.new result) }
-{
-    let mut to = to;
-    for i in 0..n {
-        to = put_after(out, to, f, infos, s, m, l, from, i);
+    let layout = looked.font.layout;
+    let low = lowest(layout, tag) as u32;
+    for i in 0..firsts(layout, tag) {
+        put_at(pen, looked, tag, low + i);
     }
-    to
+}
+
+// The findings of n tags. The font's tables char_info and lig_kern are what is looked at there, also where they are not the file's.
+pub fn put_findings(pen: &mut Pen, file: &[u8], font: &Font, marks: &[u8], from: u8, n: u8)
+    ensures { Written pen.old (found_tags file.now font.now.infos.now font.now.steps.now marks.now font.now.layout from n) pen.new }
+{
+    let looked = Looked::new(file, font, marks);
+    for i in 0..n {
+        put_on(pen, &looked, (from as u32) + (i as u32));
+    }
 }

@@ -1,118 +1,146 @@
-// Which findings are there. A finding has a tag t and two numbers, the first a and the second b.
-// infos and s are the tables char_info and lig_kern, m the marks of the steps, and d the table that the tag looks at.
+// Which findings are there. A finding has a tag and two numbers. They come singly, and a struct would be no plainer: `firsts` and `seconds` are asked
+// before all three are known, and the records' writer, C and README take them singly.
+// A tag is its number in a record, since the theorems count from one tag to the next: an arm says by what it calls which finding that is.
 ghost use Rattle.std.specs.Prelude.{◌≡◌, ◌≤◌};
-ghost use Rattle.mend.specs.Holds.{length_table, table_number, junk, holds_of, lowest, firsts, seconds};
+ghost use Rattle.tfm.specs.Subfiles.{table_of};
+ghost use Rattle.mend.specs.Holds.{OwnTables, length_table, table_number, junk, holds_of, lowest, firsts, seconds};
 
 use faults::{characters, header, steps};
-use tfm::Layout;
+use tfm::{Font, Layout};
 
-fn length_table(a: u32) -> u8
-    ensures { result ≡ length_table a }
-{
-    if a < 4 { (a + 2) as u8 } else { 7 }
+// What is looked at: a file, a font and the marks of its steps. The font's char_info and lig_kern may be any, its other tables are the file's.
+#[derive(Clone, Copy)]
+pub struct Looked<'a> {
+    pub file: &'a [u8],
+    pub font: Font<'a>,
+    pub marks: &'a [u8],
+    ghost own: { OwnTables file.now font },
 }
 
-// The subfile that a tag looks at: the header where it looks at none of these, since that is the first and is cut at once.
-pub fn table_number(t: u32, a: u32) -> u8
-    ensures { result ≡ table_number t a }
-{
-    let k = lent::first(t == 19, 8, 0);
-    let k = lent::first((t == 8) | (t == 9), length_table(a), k);
-    lent::first(t == 7, 9, k)
-}
+impl<'a> Looked<'a> {
+    // Cuts the other tables once.
+    pub fn new(file: &'a [u8], font: &Font<'a>, marks: &'a [u8]) -> Looked<'a>
+        ensures file { result.file ≡ file.entry }
+        ensures infos { result.font.infos ≡ font.now.infos }
+        ensures steps { result.font.steps ≡ font.now.steps }
+        ensures layout { result.font.layout ≡ font.now.layout }
+        ensures marks { result.marks ≡ marks.entry }
+    {
+        let font = Font {
+            infos: font.infos,
+            steps: font.steps,
+            ..tfm::tables_of(file, font.layout)
+        };
+        Looked { file, font, marks }
+    }
 
-// Finding 1.
-fn junk(f: &[u8], l: Layout) -> bool
-    ensures { result ≡ junk f.now l }
-{
-    4 * (l.lf as usize) < f.len()
-}
+    // Finding 1.
+    #[tactic(auto, unfolding(crate::specs::Holds::junk))]
+    fn junk(&self) -> bool
+        ensures { result ≡ junk self.now.file.now self.now.font.layout }
+    {
+        4 * (self.font.layout.lf as usize) < self.file.len()
+    }
 
-pub fn holds(
-    f: &[u8],
-    infos: &[u8],
-    s: &[u8],
-    m: &[u8],
-    d: &[u8],
-    l: Layout,
-    t: u32,
-    a: u32,
-    b: u32,
-) -> bool
-    ensures { result ≡ holds_of f.now infos.now s.now m.now d.now l t a b }
-{
-    match t {
-        1 => junk(f, l),
-        2 => header::string_too_long(d, l, a),
-        3 => header::parenthesis(d, l, a, b),
-        4 => header::nonstandard(d, l, a, b),
-        5 => header::bad_design_size(d),
-        6 => header::unusual_count(d, l),
-        7 => header::bad_parameter(d, a),
-        8 => header::not_zero(d),
-        9 => tfm::too_big(d, b),
-        10 => steps::bad_boundary(s, l),
-        11 => steps::bad_start(infos, s, l, a),
-        12 => steps::skips_too_far(s, m, l, a),
-        13 => steps::bad_address(s, m, l, a),
-        14 => steps::step_for_missing(infos, s, m, l, a),
-        15 => steps::ligature_to_missing(infos, s, m, l, a),
-        16 => steps::bad_kern(s, m, l, a),
-        17 => steps::odd_code(s, m, a),
-        19 => characters::piece_missing(infos, d, l, a, b),
-        20 => characters::bad_index(infos, l, a, b),
-        21 => characters::link_missing(infos, l, a),
-        22 => characters::ends_cycle(infos, l, a),
-        23 => characters::bad_recipe(infos, l, a),
-        _ => false,
+    // The table of a number as findings 8 and 9 say it: width, height, depth, italic, kern. `length_table` goes by the same numbers: here is the slice,
+    // which is cut once, and there the subfile's number, for `tfm::count`.
+    #[tactic(auto, unfolding(crate::specs::Holds::length_table))]
+    fn lengths(&self, number: u32) -> &[u8]
+        ensures { result.now ≡ table_of self.now.file.now self.now.font.layout (length_table number) }
+    {
+        match number {
+            0 => self.font.widths,
+            1 => self.font.heights,
+            2 => self.font.depths,
+            3 => self.font.italics,
+            _ => self.font.kerns,
+        }
+    }
+
+    #[tactic(auto, unfolding(crate::specs::Holds::holds_of, crate::specs::Holds::table_number, lent::specs::Answer::first))]
+    pub fn holds(&self, tag: u32, first: u32, second: u32) -> bool
+        ensures { result ≡ holds_of self.now.file.now self.now.font.infos.now self.now.font.steps.now self.now.marks.now
+            (table_of self.now.file.now self.now.font.layout (table_number tag first)) self.now.font.layout tag first second }
+    {
+        let font = &self.font;
+        let marks = self.marks;
+        match tag {
+            1 => self.junk(),
+            2 => header::string_too_long(font, first),
+            3 => header::parenthesis(font, first, second),
+            4 => header::nonstandard(font, first, second),
+            5 => header::bad_design_size(font),
+            6 => header::unusual_count(font),
+            7 => header::bad_parameter(font, first),
+            8 => header::not_zero(self.lengths(first)),
+            9 => tfm::too_big(self.lengths(first), second),
+            10 => steps::bad_boundary(font),
+            11 => steps::bad_start(font, first),
+            12 => steps::skips_too_far(font, marks, first),
+            13 => steps::bad_address(font, marks, first),
+            14 => steps::step_for_missing(font, marks, first),
+            15 => steps::ligature_to_missing(font, marks, first),
+            16 => steps::bad_kern(font, marks, first),
+            17 => steps::odd_code(font, marks, first),
+            19 => characters::piece_missing(font, first, second),
+            20 => characters::bad_index(font, first, second),
+            21 => characters::link_missing(font, first),
+            22 => characters::ends_cycle(font, first),
+            23 => characters::bad_recipe(font, first),
+            _ => false,
+        }
     }
 }
 
 // The lowest first number that is looked at.
-pub fn lowest(l: Layout, t: u32) -> u16
-    ensures { result ≡ lowest l t }
+#[tactic(auto, unfolding(crate::specs::Holds::lowest))]
+pub fn lowest(layout: Layout, tag: u32) -> u16
+    ensures { result ≡ lowest layout tag }
 {
-    if t == 6 {
-        l.np
-    } else if t == 7 {
-        2
-    } else if (t == 11) | (20 <= t) {
-        l.bc
-    } else {
-        0
+    match tag {
+        6 => layout.np,
+        7 => 2,
+        11 | 20.. => layout.bc,
+        _ => 0,
     }
 }
 
 // How many first numbers are looked at.
-pub fn firsts(l: Layout, t: u32) -> u32
-    ensures { (result ≡ firsts l t) × (result ≤ 65536) }
+#[tactic(auto, unfolding(crate::specs::Holds::firsts))]
+pub fn firsts(layout: Layout, tag: u32) -> u32
+    ensures value { result ≡ firsts layout tag }
+    ensures bound { result ≤ 65536 }
 {
-    if (t == 1) | (t == 5) | (t == 6) | (t == 10) {
-        1
-    } else if (t == 2) | (t == 3) | (t == 4) {
-        2
-    } else if t == 7 {
-        lent::minus(l.np as u32, 1)
-    } else if t == 8 {
-        4
-    } else if t == 9 {
-        5
-    } else if (12 <= t) & (t <= 17) {
-        l.nl as u32
-    } else if t == 19 {
-        l.ne as u32
-    } else if (t == 11) | ((20 <= t) & (t <= 23)) {
-        tfm::chars(l)
-    } else {
-        0
+    match tag {
+        1 | 5 | 6 | 10 => 1,
+        2..=4 => 2,
+        7 => (layout.np as u32).saturating_sub(1),
+        8 => 4,
+        9 => 5,
+        12..=17 => layout.nl as u32,
+        19 => layout.ne as u32,
+        11 | 20..=23 => tfm::chars(layout),
+        _ => 0,
     }
 }
 
-// How many second numbers are looked at, with the first number a.
-pub fn seconds(l: Layout, t: u32, a: u32) -> u32
-    ensures { result ≡ seconds l t a }
+// The subfile of the table of a number as finding 9 says it: width, height, depth, italic, kern.
+#[tactic(auto, unfolding(crate::specs::Holds::length_table))]
+fn length_table(number: u32) -> u8
+    ensures { result ≡ length_table number }
 {
-    let n = lent::choose((t == 19) | (t == 20), 4, 1);
-    let n = lent::choose(t == 9, tfm::count(l, table_number(t, a)), n);
-    lent::choose((t == 3) | (t == 4), 40, n)
+    if number < 4 { (number + 2) as u8 } else { 7 }
+}
+
+// How many second numbers are looked at.
+#[tactic(auto, unfolding(crate::specs::Holds::seconds, crate::specs::Holds::table_number, lent::specs::Answer::first))]
+pub fn seconds(layout: Layout, tag: u32, first: u32) -> u32
+    ensures { result ≡ seconds layout tag first }
+{
+    match tag {
+        3 | 4 => 40,
+        9 => tfm::count(layout, length_table(first)),
+        19 | 20 => 4,
+        _ => 1,
+    }
 }

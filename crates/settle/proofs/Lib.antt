@@ -1,5 +1,6 @@
 -- The laws of `settle` that belong to no one function
-mod Halves
+mod Found
 mod Moves
 mod Room
+mod States
 pub mod Whole

@@ -8,7 +8,7 @@ use lib.ListN.{length, get_or, set, length-set}
 use lib.Seq.{get_or-set_same, get_or-set_other}
 use Rattle.settle.specs.Settle.{Settles, none, on_left, on_right, on_both, Loops, key_of, left_of, right_of, st_of, val_of, classed, step_of, Told}
 use Rattle.settle.specs.Needs.{Needs, needs_trans, needs_left, needs_right, needs_first, needs_second, needs_itself, needs_loops}
-use Rattle.settle.specs.Room.{Sorted, unit, live, Entry, Right, Ok, Answer, Looked, Marked, Found, Fresh, Asked, Stored, Old, Turned}
+use Rattle.settle.specs.Room.{Sorted, unit, live, Entry, Right, Ok, Answer, Looked, Marked, Found, Fresh, Stored, Old, Turned}
 use Rattle.settle.proofs.Room.{live_set, live_old, unit_live, step_at_lem, step_none}
 
 -- the pair of the entry k, and its code
@@ -48,34 +48,30 @@ step_of_lem {P} {a} r s i h lo hi =
 pub looked_few : {a b : List ℕ} {x y r : ℕ} → Looked a x y b r → live b ≤ live a
 looked_few {a} {b} l = live_old a b l.long l.old
 
-module _ (a : List ℕ) (x y : ℕ) (asked : Asked a x y) where
+module _ (a : List ℕ) (x y : ℕ) (sorted : Sorted a) (y_small : y < 256) where
   -- the room stays as it is
   stay : (r : ℕ) → ((r ≡ 257 → ⊥) → r < 256) → ((P : List ℕ) → Ok P a x y → (r ≡ 257 → ⊥) → Settles (step_of P) x y r) → ((P : List ℕ) → Ok P a x y → r ≡ 257 → Loops (step_of P) x y) → Looked a x y a r
-  stay r few f g = record { long = refl; old = λ i p q. refl; sorted = asked.sorted; small = few; answer = λ P ok. record { all = ok.all; told = record { settles = f P ok; loops = g P ok } } }
+  stay r few f g = record { long = refl; old = λ i p q. refl; sorted = sorted; small = few; answer = λ P ok. record { all = ok.all; told = record { settles = f P ok; loops = g P ok } } }
 
-  pub looked_none : (i : ℕ) → Found a (x * 256 + y) i → length a ≤ i → Looked a x y a y
-  unfolding step_of
-  looked_none i found l = stay y (λ _. asked.y_small)
-      (λ P ok _. none (step_none P (x * 256 + y) (λ j h e. found.nowhere l j (omega (arith, ok.all.long)) ((ok.all.entry j (omega (arith, ok.all.long))).key ∙ e))))
-      (λ P ok e. absurd (omega (arith, asked.y_small)))
+  module _ {key : ℕ} (is : key ≡ x * 256 + y) where
+    pub looked_none : Found a key (length a) → Looked a x y a y
+    unfolding step_of
+    looked_none found = stay y (λ _. y_small)
+        (λ P ok _. none (step_none P (x * 256 + y) (λ j h e. found.nowhere (omega arith) j (omega (arith, ok.all.long)) ((ok.all.entry j (omega (arith, ok.all.long))).key ∙ (e ∙ sym is)))))
+        (λ P ok e. absurd (omega (arith, y_small)))
 
-  module _ (i : ℕ) (found : Found a (x * 256 + y) i) (h : i < length a) where
-    pub looked_done : st_of (get_or a i 0) ≡ 0 → Looked a x y a (val_of (get_or a i 0))
-    looked_done s = stay (val_of (get_or a i 0)) (λ _. omega arith)
-        (λ P ok _. at_key (λ p q. Settles (step_of P) p q (val_of (get_or a i 0))) (get_or a i 0) x y (found.here h) asked.y_small ((ok.all.entry i h).settled s))
-        (λ P ok e. absurd (omega arith))
+    module _ {i : ℕ} (h : i < length a) (found : Found a key i) where
+      here : key_of (get_or a i 0) ≡ x * 256 + y
+      here = found.here h ∙ is
 
-    pub looked_held : 4 ≤ st_of (get_or a i 0) → Looked a x y a 257
-    looked_held s = stay 257 (λ f. absurd (f refl)) (λ P ok f. absurd (f refl)) (λ P ok _. loop P ok)
-      where
-        loop : (P : List ℕ) → Ok P a x y → Loops (step_of P) x y
-        loop P ok = elim (ℕ_discrete (st_of (get_or a i 0)) 4) [
-          | yes e ↦ needs_itself (at_key (λ p q. Needs (step_of P) p q x y) (get_or a i 0) x y (found.here h) asked.y_small (ok.needs i h e))
-          | no f ↦ at_key (λ p q. Loops (step_of P) p q) (get_or a i 0) x y (found.here h) asked.y_small ((ok.all.entry i h).loops (omega (arith, (ok.all.entry i h).small)))
-        ]
-
-    pub looked_settle : (b : List ℕ) (r : ℕ) → Looked a (left_of (get_or a i 0)) (right_of (get_or a i 0)) b r → Looked a x y b r
-    looked_settle b r l = at_key (λ p q. Looked a p q b r) (get_or a i 0) x y (found.here h) asked.y_small l
+      pub looked_held : 4 ≤ st_of (get_or a i 0) → Looked a x y a 257
+      looked_held s = stay 257 (λ f. absurd (f refl)) (λ P ok f. absurd (f refl)) (λ P ok _. loop P ok)
+        where
+          loop : (P : List ℕ) → Ok P a x y → Loops (step_of P) x y
+          loop P ok = elim (ℕ_discrete (st_of (get_or a i 0)) 4) [
+            | yes e ↦ needs_itself (at_key (λ p q. Needs (step_of P) p q x y) (get_or a i 0) x y here y_small (ok.needs i h e))
+            | no f ↦ at_key (λ p q. Loops (step_of P) p q) (get_or a i 0) x y here y_small ((ok.all.entry i h).loops (omega (arith, (ok.all.entry i h).small)))
+          ]
 
 -- what holds of the new element, and of each old one elsewhere, holds at each index after a store
 at_set : (T : ℕ → ℕ → Type 0) (a : List ℕ) (k v : ℕ) → k < length a → T k v → ((i : ℕ) → (i ≡ k → ⊥) → T i (get_or a i 0)) → (i : ℕ) → T i (get_or (set a k v) i 0)
@@ -218,28 +214,32 @@ module _ (a : List ℕ) (k : ℕ) (fresh : Fresh a k) where
       past = subst (λ (e : ℕ). 0 < st_of e → st_of e < 4 → ⊥) (sym (get_or-set_same b k r 0 lb)) (λ p q. mark_past p (omega arith));
     })
 
-  module _ (b d : List ℕ) (w : ℕ) where
-    -- the pair asks for one pair only
-    alone : {g h : ℕ} → Looked (begun a k) g h b w → Stored b k w d → ((P : List ℕ) → Right P a → Needs (step_of P) (X a k) (Y a k) g h) → ((P : List ℕ) → Right P a → (w ≡ 257 → ⊥) → Settles (step_of P) g h w → Settles (step_of P) (X a k) (Y a k) w) → Turned a k d w
-    alone {g} {h} l st n f = finish (begun a k) b d g h w length_begun (λ i p q. refl) l st (λ P ok. record { all = begun_right ok.all; needs = n P ok.all; back = f P ok.all })
+  -- the pair asks for one pair only
+  alone : {b d : List ℕ} {w g h : ℕ} → Stored b k w d → Looked (begun a k) g h b w → ((P : List ℕ) → Right P a → Needs (step_of P) (X a k) (Y a k) g h) → ((P : List ℕ) → Right P a → (w ≡ 257 → ⊥) → Settles (step_of P) g h w → Settles (step_of P) (X a k) (Y a k) w) → Turned a k d w
+  alone {b} {d} {w} {g} {h} st l n f =
+      finish (begun a k) b d g h w length_begun (λ i p q. refl) l st (λ P ok. record { all = begun_right ok.all; needs = n P ok.all; back = f P ok.all })
 
-    pub settle_left : st_of (get_or a k 0) ≡ 1 → Looked (begun a k) (Z a k) (Y a k) b w → Stored b k w d → Turned a k d w
-    unfolding classed
-    settle_left e l st = alone l st (λ P r. needs_left (step_k r e)) (λ P r _. on_left (step_k r e))
+  -- m is the room when the first pair is asked for, and x, y, z are the parts of the entry k, as the code has them
+  pub settle_left : {m b d : List ℕ} {y z w : ℕ} → m ≡ begun a k → z ≡ Z a k → y ≡ Y a k → st_of (get_or a k 0) ≡ 1 → Looked m z y b w → Stored b k w d → Turned a k d w
+  unfolding classed
+  settle_left p q t e l st = alone st (rw (p, q, t) at l) (λ P o. needs_left (step_k o e)) (λ P o _. on_left (step_k o e))
 
-    pub settle_right : st_of (get_or a k 0) ≡ 2 → Looked (begun a k) (X a k) (Z a k) b w → Stored b k w d → Turned a k d w
-    unfolding classed
-    settle_right e l st = alone l st (λ P r. needs_right (step_k r e)) (λ P r _. on_right (step_k r e))
+  pub settle_right : {m b d : List ℕ} {x z w : ℕ} → m ≡ begun a k → x ≡ X a k → z ≡ Z a k → st_of (get_or a k 0) ≡ 2 → Looked m x z b w → Stored b k w d → Turned a k d w
+  unfolding classed
+  settle_right p q t e l st = alone st (rw (p, q, t) at l) (λ P o. needs_right (step_k o e)) (λ P o _. on_right (step_k o e))
 
-    -- the first of two pairs never settles
-    pub settle_first : st_of (get_or a k 0) ≡ 3 → w ≡ 257 → Looked (begun a k) (X a k) (Z a k) b w → Stored b k w d → Turned a k d w
-    unfolding classed
-    settle_first e q l st = alone l st (λ P r. needs_first (step_k r e)) (λ P r n. absurd (n q))
+  -- the first of two pairs never settles
+  pub settle_first : {m b d : List ℕ} {x z : ℕ} → m ≡ begun a k → x ≡ X a k → z ≡ Z a k → st_of (get_or a k 0) ≡ 3 → Looked m x z b 257 → Stored b k 257 d → Turned a k d 257
+  unfolding classed
+  settle_first p q t e l st = alone st (rw (p, q, t) at l) (λ P o. needs_first (step_k o e)) (λ P o n. absurd (n refl))
 
-    -- the first settles to v
-    pub settle_second : (c : List ℕ) (v : ℕ) → st_of (get_or a k 0) ≡ 3 → (v ≡ 257 → ⊥) → Looked (begun a k) (X a k) (Z a k) c v → Looked c v (Y a k) b w → Stored b k w d → Turned a k d w
-    unfolding classed
-    settle_second c v e n l l' st = finish c b d v (Y a k) w (l.long ∙ length_begun) l.old l' st (λ P ok.
-        let s = step_k ok.all e in
-        let q : Answer P c (X a k) (Z a k) v = l.answer P (ok_at (λ i p q. refl) ok (begun_right ok.all) (needs_first s)) in
-        record { all = q.all; needs = needs_second s (q.told.settles n); back = λ _. on_both s (q.told.settles n) })
+  -- the first settles to v
+  pub settle_second : {m b c d : List ℕ} {v x y z w : ℕ} → m ≡ begun a k → x ≡ X a k → y ≡ Y a k → z ≡ Z a k → st_of (get_or a k 0) ≡ 3 → v < 256 → Looked m x z c v → Looked c v y b w → Stored b k w d → Turned a k d w
+  unfolding classed
+  settle_second {b = b} {c} {d} {v} {w = w} p q t u e few l n st =
+      let one : Looked (begun a k) (X a k) (Z a k) c v = rw (p, q, u) at l in
+      finish c b d v (Y a k) w (one.long ∙ length_begun) one.old (rw t at n) st (λ P ok.
+      let s = step_k ok.all e in
+      let o : Answer P c (X a k) (Z a k) v = one.answer P (ok_at (λ i _ _. refl) ok (begun_right ok.all) (needs_first s)) in
+      let first : Settles (step_of P) (X a k) (Z a k) v = o.told.settles (λ f. omega arith) in
+      record { all = o.all; needs = needs_second s first; back = λ _. on_both s first })

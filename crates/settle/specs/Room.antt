@@ -3,6 +3,16 @@
 use Rattle.std.specs.Prelude.{◌≡◌, List, [], ◌∷◌, ℕ, zero, suc, ◌+◌, ◌%◌, ◌<◌, ◌≤◌, length, get_or, set}
 use Rattle.settle.specs.Settle.{Step, Settles, Loops, key_of, left_of, right_of, st_of, val_of, step_of, Told}
 use Rattle.settle.specs.Needs.{Needs}
+use Rattle.settle.specs.declared.State.{State}
+use Rattle.settle.specs.declared.State.TheVariants.{Settled as AtRest, Left, Right as OnRight, Both, Held}
+
+-- the number of a state, as the code names it
+abbrev pub IsState : State → ℕ → Type 0
+IsState AtRest s = s ≡ 0
+IsState Left s = s ≡ 1
+IsState OnRight s = s ≡ 2
+IsState Both s = s ≡ 3
+IsState Held s = 4 ≤ s
 
 -- the keys ascend
 abbrev pub Sorted : List ℕ → Type 0
@@ -78,12 +88,6 @@ pub record Fresh (a : List ℕ) (k : ℕ) : Type 0 where
   pub here : k < length a
   pub low : 0 < st_of (get_or a k 0)
   pub high : st_of (get_or a k 0) < 4
-
--- what may be asked for
-pub record Asked (a : List ℕ) (x y : ℕ) : Type 0 where
-  pub sorted : Sorted a
-  pub x_small : x < 65536
-  pub y_small : y < 256
 
 -- the room b is a with the outcome w at k
 pub record Stored (a : List ℕ) (k w : ℕ) (b : List ℕ) : Type 0 where

@@ -1,5 +1,5 @@
 -- What a pair of codes settles to under a ligature program.
-use Rattle.std.specs.Prelude.{◌≡◌, List, [], ◌∷◌, Bool, true, false, ◌⊎◌, ℕ, zero, suc, ◌+◌, ◌*◌, ◌/◌, ◌%◌, ◌<◌, ◌≤◌, eqb, length, get_or, take, drop}
+use Rattle.std.specs.Prelude.{◌≡◌, Option, Some, None, List, [], ◌∷◌, Bool, true, false, ◌⊎◌, ℕ, zero, suc, ◌+◌, ◌*◌, ◌/◌, ◌%◌, ◌<◌, ◌≤◌, eqb, length, get_or, take, drop}
 
 -- what a program does at a pair: no step; done with a code; go on with the code on the left, on the right, or with both codes in turn
 pub data Step : Type 0 where
@@ -78,6 +78,11 @@ pub record Settled (P b : List ℕ) : Type 0 where
 pub record Judged (T : Type 0) (r : Bool) : Type 0 where
   pub holds : r ≡ true → T
   pub fails : r ≡ false → T → ⊥
+
+-- the number of an outcome: the code that a pair settles to, or 257 if it never does
+abbrev pub outcome_number : Option ℕ → ℕ
+outcome_number (Some w) = w
+outcome_number None = 257
 
 -- r is what the pair (x, y) settles to, or 257 if it never does
 pub record Told (S : ℕ → ℕ → Step) (x y r : ℕ) : Type 0 where

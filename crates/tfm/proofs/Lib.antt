@@ -3,3 +3,5 @@ pub mod Accepted
 pub mod Bounds
 pub mod Exact
 pub mod Once
+pub mod Refusals
+pub mod Starts

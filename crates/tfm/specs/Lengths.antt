@@ -1,5 +1,5 @@
 -- The eye lengths of a character.
-use Rattle.std.specs.Prelude.{ℕ, ◌+◌, ◌*◌, ◌/◌, Bool, false, ◌&&◌, not, cond, List, ltb, eqb, pos, Float, length}
+use Rattle.std.specs.Prelude.{ℕ, ◌+◌, ◌*◌, ◌/◌, Bool, false, ◌&&◌, not, cond, List, ltb, eqb, pos, Float, length, Result, Ok, Err}
 use Rattle.std.specs.Float.{fin, binary64}
 use Rattle.std.specs.Float.Ieee.{div, of_int}
 use Rattle.std.proofs.Common.{to_z}
@@ -13,7 +13,9 @@ use Rattle.tfm.specs.declared.CharInfo.{CharInfo}
 use Rattle.tfm.specs.declared.Lookup.{Lookup}
 use Rattle.tfm.specs.declared.Lookup.TheVariants.{Present, Missing}
 use Rattle.tfm.specs.declared.EyeLengths.{EyeLengths}
-use Rattle.tfm.specs.declared.EyeAnswer.{EyeAnswer}
+use Rattle.tfm.specs.declared.Font.{Font}
+use Rattle.tfm.specs.declared.refusal.Refusal.{Refusal}
+use Rattle.tfm.specs.Refusal.{number}
 
 -- word i of a table, high byte first
 unfoldable pub word_of : List ℕ → ℕ → ℕ
@@ -44,6 +46,21 @@ lengths_of f l info =
       italic = eye_of (entry_of (table_of f l 5) info.italic);
     }
 
+-- those of a font that is cut already
+unfoldable pub lengths_in : Font → CharInfo → EyeLengths
+lengths_in font info =
+    record {
+      width = eye_of (entry_of font.widths.now info.width);
+      height = eye_of (entry_of font.heights.now info.height);
+      depth = eye_of (entry_of font.depths.now info.depth);
+      italic = eye_of (entry_of font.italics.now info.italic);
+    }
+
+-- an answer: its number, and the four lengths
+pub record EyeAnswer : Type 0 where
+  pub number : ℕ
+  pub lengths : EyeLengths
+
 -- a refusal brings its number, with every float 0
 abbrev pub no_lengths : ℕ → EyeAnswer
 no_lengths n =
@@ -56,7 +73,11 @@ unfoldable pub lengths_for : List ℕ → Layout → Lookup → EyeAnswer
 lengths_for f l (Present info) = record { number = 0; lengths = lengths_of f l info }
 lengths_for f l Missing = no_lengths 18
 
--- what `eye_lengths` answers
+-- what `eye_lengths` answers, as a number and lengths
+abbrev pub answered : Result EyeLengths Refusal → EyeAnswer
+answered (Ok lengths) = record { number = 0; lengths = lengths }
+answered (Err refusal) = no_lengths (number refusal)
+
 abbrev pub eye_number : List ℕ → ℕ → ℕ
 eye_number f code = number_of f (layout_of f) (first (ltb 255 code) 17 0)
 

@@ -1,4 +1,5 @@
 -- What the contracts of `tfm` cite, in the order of the paper
+pub mod Refusal
 pub mod Sizes
 pub mod Subfiles
 pub mod Characters

@@ -1,17 +1,22 @@
 // A TFM file: its twelve sizes, its ten subfiles, its characters and their lengths.
 #![tactic(auto)]
 
-ghost use Rattle.std.specs.Prelude.{◌≡◌, ◌+◌, ◌-◌, ◌*◌, ◌/◌, ◌%◌, ◌≤◌};
+mod refusal;
+
+ghost use Rattle.std.specs.Prelude.{◌≡◌, ◌+◌, ◌-◌, ◌*◌, ◌/◌, ◌%◌, ◌≤◌, length, sum, IfOk, ◌∷◌, []};
 ghost use Rattle.std.proofs.Common.{to_z};
 ghost use Rattle.std.specs.Int.{w32};
 ghost use Rattle.lent.specs.Part.{PartOf};
 ghost use Rattle.tfm.specs.Sizes.{size_at, layout_of, chars, over, any_over, any_empty, layout_number, number_of, size_list, sizes_answer};
-ghost use Rattle.tfm.specs.Subfiles.{counts, count_of, start_of, table_of, subfile_number, subfile_start, subfile_of};
+ghost use Rattle.tfm.specs.Refusal.{refused};
+ghost use Rattle.tfm.specs.Subfiles.{counts, count_of, start_of, table_of, FontOf, subfile_number, subfile_start, subfile_of};
 ghost use Rattle.tfm.specs.Characters.{byte_of, info_of, untagged, in_range, exists_in, look_up};
-ghost use Rattle.tfm.specs.Lengths.{word_of, too_big, index_in, entry_of, eye_of, lengths_of, no_lengths, eye_answer};
+ghost use Rattle.tfm.specs.Lengths.{word_of, too_big, index_in, entry_of, eye_of, lengths_in, answered, eye_answer};
+
+pub use refusal::{Refusal, number_of};
 
 // The twelve sizes, in file order.
-#[derive(Clone, Copy)]
+#[derive(Clone, Copy, Debug, PartialEq, Eq)]
 pub struct Layout {
     pub lf: u16,
     pub lh: u16,
@@ -27,13 +32,15 @@ pub struct Layout {
     pub np: u16,
 }
 
+#[tactic(auto, unfolding(crate::specs::Sizes::size_at))]
 fn size(file: &[u8], k: u32) -> u16
     ensures { result ≡ size_at file.now k }
 {
     let i = 2 * (k as usize);
-    (lent::at(file, i) as u16) * 256 + (lent::at(file, i + 1) as u16)
+    u16::from_be_bytes([lent::at(file, i, 0), lent::at(file, i + 1, 0)])
 }
 
+#[tactic(auto, unfolding(crate::specs::Sizes::layout_of))]
 pub fn read_layout(file: &[u8]) -> Layout
     ensures { result ≡ layout_of file.now }
 {
@@ -54,53 +61,54 @@ pub fn read_layout(file: &[u8]) -> Layout
 }
 
 // ec - bc + 1, and 0 where that is negative.
-pub fn chars(l: Layout) -> u32
-    ensures { result ≡ chars l }
+pub fn chars(layout: Layout) -> u32
+    ensures { result ≡ chars layout }
 {
-    lent::minus((l.ec as u32) + 1, l.bc as u32)
-}
-
-fn wide(size: u16) -> u32
-    ensures { result ≡ size }
-{
-    size as u32
+    (layout.ec as u32 + 1).saturating_sub(layout.bc as u32)
 }
 
 // The words of each subfile.
-fn counts(l: Layout) -> [u32; 10]
-    ensures { result ≡ counts l }
+fn counts(layout: Layout) -> [u32; 10]
+    ensures { result ≡ counts layout }
 {
     [
-        wide(l.lh),
-        chars(l),
-        wide(l.nw),
-        wide(l.nh),
-        wide(l.nd),
-        wide(l.ni),
-        wide(l.nl),
-        wide(l.nk),
-        wide(l.ne),
-        wide(l.np),
+        layout.lh as u32,
+        chars(layout),
+        layout.nw as u32,
+        layout.nh as u32,
+        layout.nd as u32,
+        layout.ni as u32,
+        layout.nl as u32,
+        layout.nk as u32,
+        layout.ne as u32,
+        layout.np as u32,
     ]
 }
 
-pub fn count(l: Layout, k: u8) -> u32
-    ensures { (result ≡ count_of l k) × (result ≤ 65536) }
+// The words of subfile k. A subfile is a number here and below, and no enum: C and `subfile` take any, and `count_of` and `table_of` of specs/ speak of it.
+#[tactic(auto, unfolding(crate::specs::Subfiles::count_of))]
+pub fn count(layout: Layout, k: u8) -> u32
+    ensures value { result ≡ count_of layout k }
+    ensures bound { result ≤ 65536 }
 {
-    let counts = counts(l);
-    lent::number_at(&counts, k as usize)
+    let counts = counts(layout);
+    lent::at(&counts, k as usize, 0)
+}
+
+fn total(counts: &[u32]) -> usize
+    requires { length counts.now ≤ 10 }
+    ensures { result ≡ sum counts.now }
+{
+    counts.iter().map(|&n| n as usize).sum()
 }
 
 // The word at which subfile k begins, and of 10 the words that the sizes ask for.
-pub fn start(l: Layout, k: u8) -> usize
-    ensures { (result ≡ start_of l k) × (result ≤ 6 + 4294967295 * k) }
+pub fn start(layout: Layout, k: u8) -> usize
+    ensures value { result ≡ start_of layout k }
+    ensures bound { result ≤ 6 + 4294967295 * k }
 {
-    let counts = counts(l);
-    let mut at: usize = 6;
-    for i in 0..k {
-        at += lent::number_at(&counts, i as usize) as usize;
-    }
-    at
+    let counts = counts(layout);
+    6 + total(&counts[..(k as usize).min(counts.len())])
 }
 
 // The first byte of a size exceeds 127.
@@ -110,116 +118,209 @@ fn over(size: u16) -> bool
     127 < size / 256
 }
 
-fn any_over(l: Layout) -> bool
-    ensures { result ≡ any_over l }
+fn any_over(layout: Layout) -> bool
+    ensures { result ≡ any_over layout }
 {
-    over(l.lh)
-        | over(l.bc)
-        | over(l.ec)
-        | over(l.nw)
-        | over(l.nh)
-        | over(l.nd)
-        | over(l.ni)
-        | over(l.nl)
-        | over(l.nk)
-        | over(l.ne)
-        | over(l.np)
+    over(layout.lh)
+        | over(layout.bc)
+        | over(layout.ec)
+        | over(layout.nw)
+        | over(layout.nh)
+        | over(layout.nd)
+        | over(layout.ni)
+        | over(layout.nl)
+        | over(layout.nk)
+        | over(layout.ne)
+        | over(layout.np)
 }
 
-fn any_empty(l: Layout) -> bool
-    ensures { result ≡ any_empty l }
+fn any_empty(layout: Layout) -> bool
+    ensures { result ≡ any_empty layout }
 {
-    (l.nw == 0) | (l.nh == 0) | (l.nd == 0) | (l.ni == 0)
+    (layout.nw == 0) | (layout.nh == 0) | (layout.nd == 0) | (layout.ni == 0)
 }
 
-// The numbers 7 to 12, and then what the later tests give.
-fn layout_number(l: Layout, later: u8) -> u8
-    ensures { result ≡ layout_number l later }
+// The refusals 7 to 12.
+#[tactic(auto, unfolding(crate::specs::Sizes::layout_number, lent::specs::Answer::first))]
+fn check_layout(layout: Layout) -> Result<(), Refusal>
+    ensures { refused result ≡ layout_number layout 0 }
 {
-    let bc = l.bc as u32;
-    let ec = l.ec as u32;
-    let n = lent::first(l.lf as usize != start(l, 10), 12, later);
-    let n = lent::first(256 < l.ne, 11, n);
-    let n = lent::first(any_empty(l), 10, n);
-    let n = lent::first((ec + 1 < bc) | (255 < ec), 9, n);
-    let n = lent::first(l.lh < 2, 8, n);
-    lent::first(any_over(l), 7, n)
+    let bc = layout.bc as u32;
+    let ec = layout.ec as u32;
+    if any_over(layout) {
+        return Err(Refusal::SizeOver127);
+    }
+    if layout.lh < 2 {
+        return Err(Refusal::ShortHeader);
+    }
+    if (ec + 1 < bc) | (255 < ec) {
+        return Err(Refusal::ImpossibleRange);
+    }
+    if any_empty(layout) {
+        return Err(Refusal::EmptyTable);
+    }
+    if 256 < layout.ne {
+        return Err(Refusal::TooManyRecipes);
+    }
+    if layout.lf as usize != start(layout, 10) {
+        return Err(Refusal::SizesDisagree);
+    }
+    Ok(())
 }
 
-// The numbers 1 to 12, and then what the later tests give.
-pub fn number(file: &[u8], l: Layout, later: u8) -> u8
-    ensures { result ≡ number_of file.now l later }
+// The refusals 1 to 12.
+#[tactic(auto, unfolding(crate::specs::Sizes::number_of, lent::specs::Answer::first))]
+pub fn check(file: &[u8], layout: Layout) -> Result<(), Refusal>
+    ensures { refused result ≡ number_of file.now layout 0 }
 {
-    let len = file.len();
-    let lf = l.lf as usize;
-    let n = lent::first(lf < 6, 6, layout_number(l, later));
-    let n = lent::first(len < 4 * lf, 5, n);
-    let n = lent::first(lf == 0, 4, n);
-    let n = lent::first(len == 1, 3, n);
-    let n = lent::first(127 < lent::at(file, 0), 2, n);
-    lent::first(len == 0, 1, n)
+    let lf = layout.lf as usize;
+    if file.is_empty() {
+        return Err(Refusal::NoBytes);
+    }
+    if 127 < lent::at(file, 0, 0) {
+        return Err(Refusal::FirstByteOver127);
+    }
+    if file.len() == 1 {
+        return Err(Refusal::OneByte);
+    }
+    if lf == 0 {
+        return Err(Refusal::LengthZero);
+    }
+    if file.len() < 4 * lf {
+        return Err(Refusal::FewerBytesThanSaid);
+    }
+    if lf < 6 {
+        return Err(Refusal::FewerThanSixWords);
+    }
+    check_layout(layout)
 }
 
 // The answer's number, and the twelve sizes in file order, all zero on refusal.
-#[derive(Clone, Copy)]
+// It is no Result, since docs/TRACE.md, "Forms for parts of the code", asks for the sizes by value beside the number.
+#[derive(Clone, Copy, Debug, PartialEq, Eq)]
 pub struct TwelveSizes {
     pub number: u8,
     pub sizes: [u16; 12],
 }
 
-fn listed(l: Layout) -> [u16; 12]
-    ensures { result ≡ size_list l }
-{
-    [
-        l.lf, l.lh, l.bc, l.ec, l.nw, l.nh, l.nd, l.ni, l.nl, l.nk, l.ne, l.np,
-    ]
+impl From<Layout> for [u16; 12] {
+    ghost from_gives = { λ layout sizes. sizes ≡ size_list layout };
+
+    #[tactic(auto, unfolding(crate::specs::Sizes::size_list))]
+    fn from(layout: Layout) -> [u16; 12] {
+        let Layout {
+            lf,
+            lh,
+            bc,
+            ec,
+            nw,
+            nh,
+            nd,
+            ni,
+            nl,
+            nk,
+            ne,
+            np,
+        } = layout;
+        [lf, lh, bc, ec, nw, nh, nd, ni, nl, nk, ne, np]
+    }
 }
 
+#[tactic(auto, unfolding(crate::specs::Sizes::sizes_answer, lent::specs::Answer::on_accept))]
 pub fn sizes(file: &[u8]) -> TwelveSizes
     ensures { result ≡ sizes_answer file.now }
 {
-    let l = read_layout(file);
-    let number = number(file, l, 0);
-    if number != 0 {
-        return TwelveSizes {
-            number,
+    let layout = read_layout(file);
+    match check(file, layout) {
+        Ok(()) => TwelveSizes {
+            number: 0,
+            sizes: layout.into(),
+        },
+        Err(refusal) => TwelveSizes {
+            number: refusal.number(),
             sizes: [0; 12],
-        };
+        },
     }
-    let sizes = listed(l);
-    TwelveSizes { number, sizes }
 }
 
 // The bytes of subfile k, as that part of the file.
-pub fn table(file: &[u8], l: Layout, k: u8) -> &[u8]
-    ensures { PartOf file.entry (4 * start_of l k) (table_of file.now l k) result }
+#[tactic(auto, unfolding(crate::specs::Subfiles::table_of))]
+pub fn table(file: &[u8], layout: Layout, k: u8) -> &[u8]
+    ensures { PartOf file.entry (4 * start_of layout k) (table_of file.now layout k) result }
 {
-    lent::part(file, 4 * start(l, k), 4 * (count(l, k) as usize))
+    lent::part(file, 4 * start(layout, k), 4 * (count(layout, k) as usize))
 }
 
-pub fn subfile_number(file: &[u8], k: u8) -> u8
-    ensures { result ≡ subfile_number file.now k }
-{
-    number(file, read_layout(file), lent::first(9 < k, 17, 0))
+// The sizes of a file and its ten subfiles, in file order.
+#[derive(Clone, Copy, Debug, PartialEq, Eq)]
+pub struct Font<'a> {
+    pub layout: Layout,
+    pub header: &'a [u8],
+    pub infos: &'a [u8],
+    pub widths: &'a [u8],
+    pub heights: &'a [u8],
+    pub depths: &'a [u8],
+    pub italics: &'a [u8],
+    pub steps: &'a [u8],
+    pub kerns: &'a [u8],
+    pub recipes: &'a [u8],
+    pub params: &'a [u8],
 }
 
-// That part of the caller's own file, empty on refusal.
+// The font that a file of these sizes is.
+pub fn tables_of(file: &[u8], layout: Layout) -> Font<'_>
+    ensures { FontOf file.now layout result }
+{
+    Font {
+        layout,
+        header: table(file, layout, 0),
+        infos: table(file, layout, 1),
+        widths: table(file, layout, 2),
+        heights: table(file, layout, 3),
+        depths: table(file, layout, 4),
+        italics: table(file, layout, 5),
+        steps: table(file, layout, 6),
+        kerns: table(file, layout, 7),
+        recipes: table(file, layout, 8),
+        params: table(file, layout, 9),
+    }
+}
+
+// That part of the caller's own file.
+#[tactic(auto, using(crate::proofs::Refusals::refusal_later, crate::proofs::Refusals::accepted_later), unfolding(crate::specs::Subfiles::subfile_number, crate::specs::Subfiles::subfile_start, crate::specs::Subfiles::subfile_of, lent::specs::Answer::first, lent::specs::Answer::on_accept))]
+pub fn try_subfile(file: &[u8], k: u8) -> Result<&[u8], Refusal>
+    ensures refusal { refused result ≡ subfile_number file.now k }
+    ensures part { IfOk result
+        (λ bytes. PartOf file.entry (subfile_start file.now k) (subfile_of file.now k) bytes) }
+{
+    let layout = read_layout(file);
+    check(file, layout)?;
+    if 9 < k {
+        return Err(Refusal::OutOfRange);
+    }
+    Ok(table(file, layout, k))
+}
+
+// The same, and an empty part where it is refused.
+#[tactic(auto, using(crate::proofs::Refusals::number_positive), unfolding(crate::specs::Subfiles::subfile_start, crate::specs::Subfiles::subfile_of, lent::specs::Answer::on_accept))]
 pub fn subfile(file: &[u8], k: u8) -> &[u8]
     ensures { PartOf file.entry (subfile_start file.now k) (subfile_of file.now k) result }
 {
-    if subfile_number(file, k) != 0 {
-        return lent::part(file, 0, 0);
+    match try_subfile(file, k) {
+        Ok(bytes) => bytes,
+        Err(_) => lent::part(file, 0, 0),
     }
-    table(file, read_layout(file), k)
 }
 
 // Byte j of word i of a table.
-pub fn byte_of(t: &[u8], i: u32, j: u32) -> u8
-    ensures { result ≡ byte_of t.now i j }
+#[tactic(auto, unfolding(crate::specs::Characters::byte_of))]
+pub fn byte_of(table: &[u8], i: u32, j: u32) -> u8
+    ensures { result ≡ byte_of table.now i j }
 {
-    lent::at(t, 4 * (i as usize) + (j as usize))
+    lent::at(table, 4 * (i as usize) + (j as usize), 0)
 }
 
+// Shifts and masks here and below: docs/TRACE.md, "Forms for parts of the code", asks for them.
 fn high4(b: u8) -> u8
     ensures { result ≡ b / 16 }
 {
@@ -251,8 +352,16 @@ pub fn untag(b: u8) -> u8
     b & 252
 }
 
+// The tags: the remainder says where a ligature program starts, which character is the next larger one, or which recipe builds the character. 0 says none.
+pub const HAS_PROGRAM: u8 = 1;
+
+pub const HAS_LARGER: u8 = 2;
+
+pub const HAS_RECIPE: u8 = 3;
+
 // A char_info word: four indices, the tag and the remainder.
-#[derive(Clone, Copy)]
+// The tag is a number, and no enum, since the definitions of specs/ and the theorems about them compare it with numbers (`program_of`, `links`, `bad_recipe`).
+#[derive(Clone, Copy, Debug, PartialEq, Eq)]
 pub struct CharInfo {
     pub width: u8,
     pub height: u8,
@@ -263,6 +372,7 @@ pub struct CharInfo {
 }
 
 // Word i of char_info.
+#[tactic(auto, unfolding(crate::specs::Characters::info_of))]
 pub fn char_info(infos: &[u8], i: u32) -> CharInfo
     ensures { result ≡ info_of infos.now i }
 {
@@ -278,88 +388,107 @@ pub fn char_info(infos: &[u8], i: u32) -> CharInfo
     }
 }
 
-pub fn in_range(l: Layout, code: u32) -> bool
-    ensures { result ≡ in_range l code }
+// The word of a code, whether it is a character or not.
+pub fn info_for(font: &Font, code: u32) -> CharInfo
+    ensures { result ≡ info_of font.now.infos.now (code - font.now.layout.bc) }
 {
-    (l.bc as u32 <= code) & (code <= l.ec as u32)
+    char_info(font.infos, code.saturating_sub(font.layout.bc as u32))
+}
+
+#[tactic(auto, unfolding(crate::specs::Characters::in_range))]
+pub fn in_range(layout: Layout, code: u32) -> bool
+    ensures { result ≡ in_range layout code }
+{
+    (layout.bc as u32 <= code) & (code <= layout.ec as u32)
 }
 
 // The code is a character.
-pub fn exists(infos: &[u8], l: Layout, code: u32) -> bool
-    ensures { result ≡ exists_in infos.now l code }
+#[tactic(auto, unfolding(crate::specs::Characters::exists_in))]
+pub fn exists(font: &Font, code: u32) -> bool
+    ensures { result ≡ exists_in font.now.infos.now font.now.layout code }
 {
-    in_range(l, code) & (byte_of(infos, lent::minus(code, l.bc as u32), 0) != 0)
+    let i = code.saturating_sub(font.layout.bc as u32);
+    in_range(font.layout, code) & (byte_of(font.infos, i, 0) != 0)
 }
 
 // What stands in a file for a code.
-#[derive(Clone, Copy)]
+// It is no Option, since docs/TRACE.md, "Forms for parts of the code", asks for Present and Missing.
+#[derive(Clone, Copy, Debug, PartialEq, Eq)]
 pub enum Lookup {
     Present(CharInfo),
     Missing,
 }
 
-pub fn look_up(infos: &[u8], l: Layout, code: u32) -> Lookup
-    ensures { result ≡ look_up infos.now l code }
+#[tactic(auto, unfolding(crate::specs::Characters::look_up))]
+pub fn look_up(font: &Font, code: u32) -> Lookup
+    ensures { result ≡ look_up font.now.infos.now font.now.layout code }
 {
-    if exists(infos, l, code) {
-        Lookup::Present(char_info(infos, lent::minus(code, l.bc as u32)))
+    if exists(font, code) {
+        Lookup::Present(info_for(font, code))
     } else {
         Lookup::Missing
     }
 }
 
 // Word i of a table.
-pub fn word_of(t: &[u8], i: u32) -> u32
-    ensures { result ≡ word_of t.now i }
+#[tactic(auto, unfolding(crate::specs::Lengths::word_of))]
+pub fn word_of(table: &[u8], i: u32) -> u32
+    ensures { result ≡ word_of table.now i }
 {
-    (byte_of(t, i, 0) as u32) * 16777216
-        + (byte_of(t, i, 1) as u32) * 65536
-        + (byte_of(t, i, 2) as u32) * 256
-        + (byte_of(t, i, 3) as u32)
+    u32::from_be_bytes([
+        byte_of(table, i, 0),
+        byte_of(table, i, 1),
+        byte_of(table, i, 2),
+        byte_of(table, i, 3),
+    ])
 }
 
 // Finding 9 clears word i of the table.
-pub fn too_big(t: &[u8], i: u32) -> bool
-    ensures { result ≡ too_big t.now i }
+#[tactic(auto, unfolding(crate::specs::Lengths::too_big))]
+pub fn too_big(table: &[u8], i: u32) -> bool
+    ensures { result ≡ too_big table.now i }
 {
-    let b = byte_of(t, i, 0);
+    let b = byte_of(table, i, 0);
     (b != 0) & (b != 255)
 }
 
 // The entry that the index i reads.
-fn index_in(t: &[u8], i: u32) -> u32
-    ensures { result ≡ index_in t.now i }
+#[tactic(auto, unfolding(crate::specs::Lengths::index_in))]
+fn index_in(table: &[u8], i: u32) -> u32
+    ensures { result ≡ index_in table.now i }
 {
-    if (i as usize) < t.len() / 4 { i } else { 0 }
+    if (i as usize) < table.len() / 4 { i } else { 0 }
 }
 
 // What the index i reads, as it is meant.
-fn entry(t: &[u8], i: u32) -> u32
-    ensures { result ≡ entry_of t.now i }
+#[tactic(auto, unfolding(crate::specs::Lengths::entry_of))]
+fn entry(table: &[u8], i: u32) -> u32
+    ensures { result ≡ entry_of table.now i }
 {
-    let at = index_in(t, i);
-    if too_big(t, at) { 0 } else { word_of(t, at) }
-}
-
-// The number that a word's bits stand for in two's complement.
-fn signed(w: u32) -> i32
-    ensures { result ≡ to_z w32 w }
-{
-    if w < 2147483648 {
-        w as i32
+    let at = index_in(table, i);
+    if too_big(table, at) {
+        0
     } else {
-        !(!w as i32)
+        word_of(table, at)
     }
 }
 
-fn eye_length(w: u32) -> f64
-    ensures { result ≡ eye_of w }
+// The number that a word's bits stand for in two's complement: the library's method, with a clause in the words of the specs.
+fn signed(word: u32) -> i32
+    ensures { result ≡ to_z w32 word }
 {
-    (signed(w) as f64) / 1048576.0
+    word.cast_signed()
+}
+
+#[tactic(auto, using(crate::proofs::Exact::million), unfolding(crate::specs::Lengths::eye_of))]
+fn eye_length(word: u32) -> f64
+    ensures { result ≡ eye_of word }
+{
+    (signed(word) as f64) / 1048576.0
 }
 
 // The four lengths of a character, for the renderer.
-#[derive(Clone, Copy)]
+#[derive(Clone, Copy, Debug, PartialEq)]
 pub struct EyeLengths {
     pub width: f64,
     pub height: f64,
@@ -367,47 +496,45 @@ pub struct EyeLengths {
     pub italic: f64,
 }
 
-fn lengths(file: &[u8], l: Layout, info: CharInfo) -> EyeLengths
-    ensures { result ≡ lengths_of file.now l info }
+// The four in the order width, height, depth, italic correction.
+impl From<EyeLengths> for [f64; 4] {
+    ghost from_gives = { λ e floats. floats ≡ e.width ∷ e.height ∷ e.depth ∷ e.italic ∷ [] };
+
+    fn from(lengths: EyeLengths) -> [f64; 4] {
+        let EyeLengths {
+            width,
+            height,
+            depth,
+            italic,
+        } = lengths;
+        [width, height, depth, italic]
+    }
+}
+
+#[tactic(auto, unfolding(crate::specs::Lengths::lengths_in))]
+fn lengths(font: &Font, info: CharInfo) -> EyeLengths
+    ensures { result ≡ lengths_in font.now info }
 {
     EyeLengths {
-        width: eye_length(entry(table(file, l, 2), info.width as u32)),
-        height: eye_length(entry(table(file, l, 3), info.height as u32)),
-        depth: eye_length(entry(table(file, l, 4), info.depth as u32)),
-        italic: eye_length(entry(table(file, l, 5), info.italic as u32)),
+        width: eye_length(entry(font.widths, info.width as u32)),
+        height: eye_length(entry(font.heights, info.height as u32)),
+        depth: eye_length(entry(font.depths, info.depth as u32)),
+        italic: eye_length(entry(font.italics, info.italic as u32)),
     }
 }
 
-// The answer's number, and the four lengths, all zero on refusal.
-#[derive(Clone, Copy)]
-pub struct EyeAnswer {
-    pub number: u8,
-    pub lengths: EyeLengths,
-}
-
-fn no_lengths(number: u8) -> EyeAnswer
-    ensures { result ≡ no_lengths number }
+#[tactic(auto, using(crate::proofs::Refusals::refusal_later, crate::proofs::Refusals::accepted_later), unfolding(crate::specs::Lengths::eye_answer, crate::specs::Lengths::lengths_for, crate::specs::Lengths::lengths_of, crate::specs::Lengths::lengths_in, lent::specs::Answer::first, lent::specs::Answer::on_accept))]
+pub fn eye_lengths(file: &[u8], code: u32) -> Result<EyeLengths, Refusal>
+    ensures { answered result ≡ eye_answer file.now code }
 {
-    let lengths = EyeLengths {
-        width: 0.0,
-        height: 0.0,
-        depth: 0.0,
-        italic: 0.0,
-    };
-    EyeAnswer { number, lengths }
-}
-
-pub fn eye_lengths(file: &[u8], code: u32) -> EyeAnswer
-    ensures { result ≡ eye_answer file.now code }
-{
-    let l = read_layout(file);
-    let number = number(file, l, lent::first(255 < code, 17, 0));
-    if number != 0 {
-        return no_lengths(number);
+    let layout = read_layout(file);
+    check(file, layout)?;
+    if 255 < code {
+        return Err(Refusal::OutOfRange);
     }
-    let Lookup::Present(info) = look_up(table(file, l, 1), l, code) else {
-        return no_lengths(18);
+    let font = tables_of(file, layout);
+    let Lookup::Present(info) = look_up(&font, code) else {
+        return Err(Refusal::NoCharacter);
     };
-    let lengths = lengths(file, l, info);
-    EyeAnswer { number: 0, lengths }
+    Ok(lengths(&font, info))
 }

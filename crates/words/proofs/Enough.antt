@@ -2,14 +2,13 @@
 use Prim.Native.Nat.{ℕ, zero, suc, ◌+◌, ◌/◌, ◌≤◌, min}
 use native.Mathlib.Omega.{arith}
 use mathlib.Core.Path.{◌≡◌, refl}
-use mathlib.Core.Bool.{Bool, true, false, cond}
+use mathlib.Core.Bool.{Bool, true, false, cond, false≢true}
 use mathlib.Core.List.{List, [], ◌∷◌, ◌++◌}
 use lib.Dec.{eqb, leb}
 use lib.ListN.{length, length-append, get_or}
 use borrow.Author.Tests.{leb-true}
 use Rattle.lent.specs.Write.{Text, lit, flat, codes}
 use Rattle.ink.specs.Ink.{digits, number, octal}
-use Rattle.words.proofs.Lines.{both}
 use Rattle.words.specs.Words.{findings, numbers, verdicts, string_name, table_name, piece_words, code_name, spelled, filled, finding_words, number_words, verdict_words}
 
 abbrev bytes : Text → ℕ
@@ -103,6 +102,10 @@ filled_le first second (b ∷ s) =
 abbrev within : ℕ → List (List ℕ) → Bool
 within n [] = true
 within n (s ∷ ss) = cond (leb (longest s) n) (within n ss) false
+
+both : (test rest : Bool) → cond test rest false ≡ true → (test ≡ true) × (rest ≡ true)
+both true rest h = (refl, h)
+both false rest h = absurd (false≢true h)
 
 sentence_le : (n : ℕ) (ss : List (List ℕ)) (k : ℕ) → within n ss ≡ true → longest (get_or ss k []) ≤ n
 sentence_le n [] k h = omega arith

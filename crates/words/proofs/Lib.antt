@@ -1,3 +1,3 @@
 -- The laws of `words` that belong to no one function
-pub mod Lines
 pub mod Enough
+mod Sentences

@@ -1,3 +1,2 @@
 -- What the contracts of `words` cite
-pub mod Lines
 pub mod Words

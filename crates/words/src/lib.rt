@@ -1,176 +1,188 @@
 // Words for what is found: the sentence of each finding, of each answer's number, and of each verdict, into a lent buffer.
 #![tactic(auto)]
 
-ghost use Rattle.lent.specs.Write.{pen, Wrote};
-ghost use Rattle.words.specs.Lines.{line_of};
-ghost use Rattle.words.specs.Words.{string_name, table_name, piece_words, code_name, spelled, filled, finding_words, number_words, verdict_words};
+ghost use Rattle.std.specs.Prelude.{◌≡◌, [], min, get_or};
+ghost use Rattle.lent.specs.Write.{lit};
+ghost use Rattle.lent.specs.Pens.{Written};
+ghost use Rattle.words.specs.Words.{findings, numbers, verdicts, string_name, table_name, piece_words, code_name, spelled, filled, finding_words, number_words, verdict_words};
 
-fn put_string_name(out: &mut [u8], to: usize, string: u16) -> usize
-    ensures { Wrote (pen out.old to) (string_name string) (pen out.new result) }
+use lent::Pen;
+
+// What a finding's record and an answer hold are numbers for C, and the functions below take them as they stand there: the string, table or piece, the
+// tag, an answer's number and a verdict.
+#[tactic(auto, unfolding(crate::specs::Words::string_name))]
+fn string_name(string: u16) -> &'static [u8]
+    ensures { lit result.now ≡ string_name string }
 {
     match string {
-        0 => ink::put_bytes(out, to, b"coding scheme"),
-        _ => ink::put_bytes(out, to, b"font family"),
+        0 => b"coding scheme",
+        _ => b"font family",
     }
 }
 
-fn put_table_name(out: &mut [u8], to: usize, table: u16) -> usize
-    ensures { Wrote (pen out.old to) (table_name table) (pen out.new result) }
+#[tactic(auto, unfolding(crate::specs::Words::table_name))]
+fn table_name(table: u16) -> &'static [u8]
+    ensures { lit result.now ≡ table_name table }
 {
     match table {
-        0 => ink::put_bytes(out, to, b"width"),
-        1 => ink::put_bytes(out, to, b"height"),
-        2 => ink::put_bytes(out, to, b"depth"),
-        3 => ink::put_bytes(out, to, b"italic"),
-        _ => ink::put_bytes(out, to, b"kern"),
+        0 => b"width",
+        1 => b"height",
+        2 => b"depth",
+        3 => b"italic",
+        _ => b"kern",
     }
 }
 
-fn put_piece(out: &mut [u8], to: usize, piece: u16) -> usize
-    ensures { Wrote (pen out.old to) (piece_words piece) (pen out.new result) }
+// A piece of a recipe, and what was done.
+#[tactic(auto, unfolding(crate::specs::Words::piece_words))]
+fn piece_words(piece: u16) -> &'static [u8]
+    ensures { lit result.now ≡ piece_words piece }
 {
     match piece {
-        0 => ink::put_bytes(out, to, b"top piece; it was left out."),
-        1 => ink::put_bytes(out, to, b"middle piece; it was left out."),
-        2 => ink::put_bytes(out, to, b"bottom piece; it was left out."),
-        _ => ink::put_bytes(out, to, b"repeater; the character itself is listed."),
+        0 => b"top piece; it was left out.",
+        1 => b"middle piece; it was left out.",
+        2 => b"bottom piece; it was left out.",
+        _ => b"repeater; the character itself is listed.",
     }
 }
 
-fn put_code(out: &mut [u8], to: usize, code: u16) -> usize
-    ensures { Wrote (pen out.old to) (code_name code) (pen out.new result) }
+#[tactic(auto, unfolding(crate::specs::Words::code_name))]
+fn put_code(pen: &mut Pen, code: u16)
+    ensures { Written pen.old (code_name code) pen.new }
 {
     match code {
-        256 => ink::put_bytes(out, to, b" the left boundary"),
-        _ => ink::put_octal(out, to, code as u32),
+        256 => pen.put_bytes(b" the left boundary"),
+        _ => ink::put_octal(pen, code as u32),
     }
 }
 
 // A byte of a sentence, or what a mark in it stands for.
-fn put_spelled(out: &mut [u8], to: usize, b: u8, first: u16, second: u16) -> usize
-    ensures { Wrote (pen out.old to) (spelled first second b) (pen out.new result) }
+#[tactic(auto, unfolding(crate::specs::Words::spelled))]
+fn put_spelled(pen: &mut Pen, b: u8, first: u16, second: u16)
+    ensures { Written pen.old (spelled first second b) pen.new }
 {
     match b {
-        b'#' => ink::put_number(out, to, first as u32),
-        b'%' => ink::put_number(out, to, second as u32),
-        b'@' => put_code(out, to, first),
-        b'&' => put_code(out, to, second),
-        b'$' => put_string_name(out, to, first),
-        b'^' => put_table_name(out, to, first),
-        b'~' => put_table_name(out, to, second),
-        b'!' => put_piece(out, to, second),
-        _ => lent::put(out, to, b),
+        b'#' => ink::put_number(pen, first as u32),
+        b'%' => ink::put_number(pen, second as u32),
+        b'@' => put_code(pen, first),
+        b'&' => put_code(pen, second),
+        b'$' => pen.put_bytes(string_name(first)),
+        b'^' => pen.put_bytes(table_name(first)),
+        b'~' => pen.put_bytes(table_name(second)),
+        b'!' => pen.put_bytes(piece_words(second)),
+        _ => pen.put(b),
     }
 }
 
-// Line k of a text, with what its marks stand for.
-fn put_line(out: &mut [u8], to: usize, text: &[u8], k: usize, first: u16, second: u16) -> usize
-    ensures { Wrote (pen out.old to) (filled first second (line_of k text.now)) (pen out.new result) }
+// A sentence, with what its marks stand for.
+fn put_sentence(pen: &mut Pen, sentence: &[u8], first: u16, second: u16)
+    ensures { Written pen.old (filled first second sentence.now) pen.new }
 {
-    let mut left = k;
-    let mut to = to;
-    for i in 0..text.len() {
-        if text[i] != 10 {
-            if left == 0 {
-                to = put_spelled(out, to, text[i], first, second);
-            }
-        } else if left == 0 {
-            return to;
-        } else {
-            left -= 1;
-        }
+    for &b in sentence {
+        put_spelled(pen, b, first, second);
     }
-    to
+}
+
+// The sentences of the findings by their tags, and last what is said of any other tag.
+const FINDINGS: [&[u8]; 25] = [
+    b"There is no finding.",
+    b"There is junk after the end of the file.",
+    b"The length byte of the $ was too large; it was set to 1.",
+    b"Byte % of the $ was a parenthesis; it was made a slash.",
+    b"Byte % of the $ was not printable; it was made a question mark.",
+    b"The design size is negative or below 1; it is listed as 10 points.",
+    b"The number of parameters is unusual for this kind of font: #.",
+    b"Parameter # was too big; it was set to 0.",
+    b"Entry 0 of the ^ table is not zero.",
+    b"Entry % of the ^ table was too big; it was set to 0.",
+    b"The program of the left boundary starts past the last step; it is ignored.",
+    b"The program of character@ starts past the last step; it was taken away.",
+    b"Step # skipped past the last step; it was made the last of its program.",
+    b"Step # leads past the last step.",
+    b"Step # was for a missing character; the first code of the font was put in its place, or 0 where that is 256.",
+    b"Step # made a missing character; the first code of the font was put in its place, or 0 where that is 256.",
+    b"Step # has a kern past the last kern; it is listed as R 0.0.",
+    b"Step # had an unknown ligature code; it was made a plain ligature.",
+    b"The pair of@ and& is rewritten without end.",
+    b"Recipe # has a missing !",
+    b"The ~ index of character@ is past its table; it counts as 0.",
+    b"The next larger character of@ is missing; the link was taken away.",
+    b"The next larger characters of@ come round to it again; its link was taken away.",
+    b"The recipe of character@ is past the last recipe; it was taken away.",
+    b"There is no such finding.",
+];
+
+fn finding(tag: u8) -> &'static [u8]
+    ensures { result.now ≡ get_or findings (min tag 24) [] }
+{
+    FINDINGS[(tag as usize).min(24)]
 }
 
 // The sentence of a finding, by its tag and its two numbers.
-pub fn put_finding(out: &mut [u8], to: usize, tag: u8, first: u16, second: u16) -> usize
-    ensures { Wrote (pen out.old to) (finding_words tag first second) (pen out.new result) }
+#[tactic(auto, unfolding(crate::specs::Words::finding_words))]
+pub fn put_finding(pen: &mut Pen, tag: u8, first: u16, second: u16)
+    ensures { Written pen.old (finding_words tag first second) pen.new }
 {
-    let k = lent::least(tag as usize, 24);
-    put_line(
-        out,
-        to,
-        b"There is no finding.\n\
-            There is junk after the end of the file.\n\
-            The length byte of the $ was too large; it was set to 1.\n\
-            Byte % of the $ was a parenthesis; it was made a slash.\n\
-            Byte % of the $ was not printable; it was made a question mark.\n\
-            The design size is negative or below 1; it is listed as 10 points.\n\
-            The number of parameters is unusual for this kind of font: #.\n\
-            Parameter # was too big; it was set to 0.\n\
-            Entry 0 of the ^ table is not zero.\n\
-            Entry % of the ^ table was too big; it was set to 0.\n\
-            The program of the left boundary starts past the last step; it is ignored.\n\
-            The program of character@ starts past the last step; it was taken away.\n\
-            Step # skipped past the last step; it was made the last of its program.\n\
-            Step # leads past the last step.\n\
-            Step # was for a missing character; the first code of the font was put in its place, or 0 where that is 256.\n\
-            Step # made a missing character; the first code of the font was put in its place, or 0 where that is 256.\n\
-            Step # has a kern past the last kern; it is listed as R 0.0.\n\
-            Step # had an unknown ligature code; it was made a plain ligature.\n\
-            The pair of@ and& is rewritten without end.\n\
-            Recipe # has a missing !\n\
-            The ~ index of character@ is past its table; it counts as 0.\n\
-            The next larger character of@ is missing; the link was taken away.\n\
-            The next larger characters of@ come round to it again; its link was taken away.\n\
-            The recipe of character@ is past the last recipe; it was taken away.\n\
-            There is no such finding.\n",
-        k,
-        first,
-        second,
-    )
+    put_sentence(pen, finding(tag), first, second);
 }
 
-// The sentence of an answer's number.
-pub fn put_number(out: &mut [u8], to: usize, number: u8) -> usize
-    ensures { Wrote (pen out.old to) (number_words number) (pen out.new result) }
+// The same of the numbers of the answers.
+const NUMBERS: [&[u8]; 20] = [
+    b"Accepted.",
+    b"The file has no bytes.",
+    b"The first byte of the file is over 127.",
+    b"The file has only one byte.",
+    b"The file says that its length is 0.",
+    b"The file has fewer bytes than it says.",
+    b"The file says that it has fewer than six words.",
+    b"A size has a first byte over 127.",
+    b"The header has fewer than two words.",
+    b"The range of character codes is impossible.",
+    b"The widths, heights, depths or italic corrections are empty.",
+    b"There are more than 256 recipes.",
+    b"The sizes do not add up to the length of the file.",
+    b"The copy buffer is shorter than the file.",
+    b"The pair room is too small for the pairs of the program.",
+    b"The findings need more bytes than are lent.",
+    b"The listing needs more bytes than are lent.",
+    b"An argument is out of range.",
+    b"The character does not exist.",
+    b"There is no such answer.",
+];
+
+fn answer(number: u8) -> &'static [u8]
+    ensures { result.now ≡ get_or numbers (min number 19) [] }
 {
-    let k = lent::least(number as usize, 19);
-    put_line(
-        out,
-        to,
-        b"Accepted.\n\
-            The file has no bytes.\n\
-            The first byte of the file is over 127.\n\
-            The file has only one byte.\n\
-            The file says that its length is 0.\n\
-            The file has fewer bytes than it says.\n\
-            The file says that it has fewer than six words.\n\
-            A size has a first byte over 127.\n\
-            The header has fewer than two words.\n\
-            The range of character codes is impossible.\n\
-            The widths, heights, depths or italic corrections are empty.\n\
-            There are more than 256 recipes.\n\
-            The sizes do not add up to the length of the file.\n\
-            The copy buffer is shorter than the file.\n\
-            The pair room is too small for the pairs of the program.\n\
-            The findings need more bytes than are lent.\n\
-            The listing needs more bytes than are lent.\n\
-            An argument is out of range.\n\
-            The character does not exist.\n\
-            There is no such answer.\n",
-        k,
-        0,
-        0,
-    )
+    NUMBERS[(number as usize).min(19)]
 }
 
-// The sentence of a verdict: 0 none, 1 clean, 2 mended, 3 looping.
-pub fn put_verdict(out: &mut [u8], to: usize, verdict: u8) -> usize
-    ensures { Wrote (pen out.old to) (verdict_words verdict) (pen out.new result) }
+// The sentence of an answer's number: C gives any.
+#[tactic(auto, unfolding(crate::specs::Words::number_words))]
+pub fn put_number(pen: &mut Pen, number: u8)
+    ensures { Written pen.old (number_words number) pen.new }
 {
-    let k = lent::least(verdict as usize, 4);
-    put_line(
-        out,
-        to,
-        b"There is no verdict.\n\
-            CLEAN: nothing needs mending.\n\
-            MENDED: the file has faults; its copy is mended.\n\
-            LOOPING: a pair of characters is rewritten without end.\n\
-            There is no such verdict.\n",
-        k,
-        0,
-        0,
-    )
+    put_sentence(pen, answer(number), 0, 0);
+}
+
+// And of the verdicts: none, clean, mended, looping.
+const VERDICTS: [&[u8]; 5] = [
+    b"There is no verdict.",
+    b"CLEAN: nothing needs mending.",
+    b"MENDED: the file has faults; its copy is mended.",
+    b"LOOPING: a pair of characters is rewritten without end.",
+    b"There is no such verdict.",
+];
+
+fn verdict_of(verdict: u8) -> &'static [u8]
+    ensures { result.now ≡ get_or verdicts (min verdict 4) [] }
+{
+    VERDICTS[(verdict as usize).min(4)]
+}
+
+// The sentence of a verdict: 0 none, 1 clean, 2 mended, 3 looping. C gives any number.
+#[tactic(auto, unfolding(crate::specs::Words::verdict_words))]
+pub fn put_verdict(pen: &mut Pen, verdict: u8)
+    ensures { Written pen.old (verdict_words verdict) pen.new }
+{
+    put_sentence(pen, verdict_of(verdict), 0, 0);
 }

@@ -1,24 +1,18 @@
 -- The turns of the loop are those of `each`.
-use Rattle.lent.proofs.Ends.{keeps}
-use Rattle.lent.proofs.Writes.{no_turn, one_turn, all_turns}
+use Rattle.std.proofs.Common.{rules, ◌∙◌}
+use Rattle.gather.proofs.Enters.{no_turn, one_turn, all_turns, from_start}
 use Rattle.gather.specs.Pairs.{pairs_text}
-use borrow.Author.Rules.{rules}
 use Rattle.gather.proofs.put_pairs.Goals as goal
 
-pub loop-x-init : goal.loop-x-init
-unfolding pairs_text
-loop-x-init c = (no_turn, search rules)
+pub loop-left-init : goal.loop-left-init
+loop-left-init c = no_turn
 
-pub loop-x-preserved : goal.loop-x-preserved
-loop-x-preserved c = (
-  one_turn c.put_left-to.ensures c.loop-x.invariant.0,
-  search rules,
-)
-
-pub shape_of-room : goal.shape_of-room
-unfolding pairs_text
-shape_of-room c = keeps c.loop-x.invariant.0
+pub loop-left-preserved : goal.loop-left-preserved
+loop-left-preserved c = one_turn c.put_left.ensures c.loop-left.invariant
 
 pub returns : goal.returns
 unfolding pairs_text
-returns c = all_turns c.loop-x.invariant.0 c.loop-x.invariant.1 c.loop-x-test.false
+returns c =
+    let l = c.loop-left in
+    let tied = l.invariant.same ∙ c.new-entries.ensures.same in
+    from_start c.new-entries.ensures.start (all_turns l.invariant l.auto.left-end c.loop-left-test.false) (search rules) c.end.ensures

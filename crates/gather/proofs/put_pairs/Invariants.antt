@@ -1,8 +1,8 @@
 -- The turns of the loop are those of `each`.
-use Prim.Native.Nat.{◌≤◌}
-use Rattle.lent.specs.Write.{Wrote, pen, each}
-use Rattle.gather.specs.Pairs.{row}
+use Rattle.lent.specs.Write.{each}
+use Rattle.gather.specs.Entries.{Entered}
+use Rattle.gather.specs.Fonts.{row_of}
 use Rattle.gather.proofs.put_pairs.Given as goal
 
-abbrev pub invariant-loop-x : goal.invariant-loop-x
-invariant-loop-x l = Wrote (pen l.initial.room 0) (each l.x (row l.infos l.s l.l)) (pen l.room l.to) × (l.x ≤ 257)
+abbrev pub invariant-loop-left : goal.invariant-loop-left
+invariant-loop-left l = Entered l.initial.entries (each l.left (row_of l.font)) l.entries

@@ -1,31 +1,16 @@
 -- The turns of the loop are those of `each`.
-use native.Mathlib.Omega.{arith}
-use Rattle.lent.proofs.Ends.{keeps}
-use Rattle.lent.proofs.Writes.{no_turn, one_turn, all_turns}
-use borrow.Author.Rules.{rules}
+use Rattle.gather.proofs.Enters.{still, no_turn, one_turn}
+use Rattle.gather.proofs.Tops.{some_cell, no_cell}
+use Rattle.gather.proofs.put_row.Goals.{in-Some, in_default}
 use Rattle.gather.proofs.put_row.Goals as goal
 
-pub loop-y-init : goal.loop-y-init
-loop-y-init c = (no_turn, search rules)
+pub loop-right-init : goal.loop-right-init
+loop-right-init c = no_turn
 
-pub put_cell-to-requires : goal.put_cell-to-requires
-put_cell-to-requires c = (
-  omega arith,
-  omega (
-    arith,
-    c.number_at.ensures,
-    c.requires.1 c.loop-y.y,
-  ),
-)
-
-pub loop-y-preserved : goal.loop-y-preserved
-loop-y-preserved c = (
-  one_turn (rw c.number_at.ensures at c.put_cell-to.ensures) c.loop-y.invariant.0,
-  search rules,
-)
-
-pub shape_of-room : goal.shape_of-room
-shape_of-room c = keeps c.loop-y.invariant.0
-
-pub returns : goal.returns
-returns c = all_turns c.loop-y.invariant.0 c.loop-y.invariant.1 c.loop-y-test.false
+pub loop-right-preserved : goal.loop-right-preserved
+loop-right-preserved c =
+    let table = c.args.table.now in
+    elim c.match-step.branch [
+      | in-Some w ↦ rw w.entries-is (one_turn (rw (some_cell c.args.left c.loop-right.right _ table w.in-Some.is, ← w.from.ensures) w.put.ensures) c.loop-right.invariant)
+      | in_default w ↦ rw w.entries-is (one_turn (rw (no_cell c.args.left c.loop-right.right table w.in_default.is) still) c.loop-right.invariant)
+    ]

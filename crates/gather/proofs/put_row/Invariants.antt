@@ -1,8 +1,8 @@
 -- The turns of the loop are those of `each`.
-use Prim.Native.Nat.{◌≤◌}
-use Rattle.lent.specs.Write.{Wrote, pen, each}
-use Rattle.gather.specs.Pairs.{row_in}
+use Rattle.lent.specs.Write.{each}
+use Rattle.gather.specs.Entries.{Entered}
+use Rattle.gather.specs.Pairs.{codes, row_in}
 use Rattle.gather.proofs.put_row.Given as goal
 
-abbrev pub invariant-loop-y : goal.invariant-loop-y
-invariant-loop-y l = Wrote (pen l.initial.room l.to-2) (each l.y (row_in l.x l.table)) (pen l.room l.to) × (l.y ≤ 256)
+abbrev pub invariant-loop-right : goal.invariant-loop-right
+invariant-loop-right l = Entered l.initial.entries (each l.right (row_in l.left (codes l.table))) l.entries

@@ -5,7 +5,7 @@ use Rattle.header.proofs.put_face.Goals as goal
 
 pub returns-then-face-lt18 : goal.returns-then-face-lt18
 unfolding face_item
-returns-then-face-lt18 c = search choices depth 9
+returns-then-face-lt18 c = rw (← c.face_text.ensures) (search choices depth 9)
 
 pub returns-else-face-lt18 : goal.returns-else-face-lt18
 unfolding face_item

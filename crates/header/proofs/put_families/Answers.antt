@@ -1,12 +1,12 @@
 -- Each arm of the branch prints its arm of `choose`.
-use Rattle.items.proofs.Laws.{choices}
-use Rattle.header.specs.Header.{family_items}
+use Rattle.items.proofs.Laws.{after, choices}
+use Rattle.header.specs.Header.{family_items, family_item}
 use Rattle.header.proofs.put_families.Goals as goal
 
-pub returns-then-l-ge17 : goal.returns-then-l-ge17
-unfolding family_items
-returns-then-l-ge17 c = search choices depth 9
+pub returns-then-font-ge17 : goal.returns-then-font-ge17
+unfolding family_items family_item
+returns-then-font-ge17 c = search (choices, after) depth 9
 
-pub returns-else-l-ge17 : goal.returns-else-l-ge17
-unfolding family_items
-returns-else-l-ge17 c = search choices depth 9
+pub returns-else-font-ge17 : goal.returns-else-font-ge17
+unfolding family_items family_item
+returns-else-font-ge17 c = search choices depth 9

@@ -3,10 +3,10 @@ use Rattle.items.proofs.Laws.{choices}
 use Rattle.header.specs.Header.{flag_item}
 use Rattle.header.proofs.put_flag.Goals as goal
 
-pub returns-then-l-byte_of : goal.returns-then-l-byte_of
+pub returns-then-font-byte_of : goal.returns-then-font-byte_of
 unfolding flag_item
-returns-then-l-byte_of c = rw (← c.byte_of.ensures) (search choices depth 9)
+returns-then-font-byte_of c = rw (← c.byte_of.ensures) (search choices depth 9)
 
-pub returns-else-l-byte_of : goal.returns-else-l-byte_of
+pub returns-else-font-byte_of : goal.returns-else-font-byte_of
 unfolding flag_item
-returns-else-l-byte_of c = rw (← c.byte_of.ensures) (search choices depth 9)
+returns-else-font-byte_of c = rw (← c.byte_of.ensures) (search choices depth 9)

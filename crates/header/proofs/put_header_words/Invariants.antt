@@ -1,10 +1,8 @@
 -- The turns of the loop are those of `loop`.
-use Prim.Native.Nat.{◌≤◌}
-use Rattle.items.specs.Items.{loop}
-use Rattle.lent.specs.Write.{pen}
-use Rattle.items.specs.Items.{Listed}
+use Rattle.std.proofs.Common.{◌≤◌}
+use Rattle.items.specs.Items.{loop, Printed}
 use Rattle.header.specs.Header.{header_word}
 use Rattle.header.proofs.put_header_words.Given as goal
 
 abbrev pub invariant-loop-i : goal.invariant-loop-i
-invariant-loop-i l = Listed (pen l.initial.out l.to-2) 0 (loop l.i (header_word l.h)) (pen l.out l.to) × (l.i ≤ l.n)
+invariant-loop-i l = Printed l.initial.pen 0 (loop l.i (header_word l.font.header.now)) l.pen × (l.i ≤ l.n)

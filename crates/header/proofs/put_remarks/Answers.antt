@@ -5,5 +5,4 @@ use Rattle.header.proofs.put_remarks.Goals as goal
 
 pub returns : goal.returns
 unfolding remarks
-returns c =
-    after c.leaf_bare.ensures c.leaf_bare-to.ensures
+returns c = search after

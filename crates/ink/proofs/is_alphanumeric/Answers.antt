@@ -1,7 +1,7 @@
--- `is_alphanumeric` goes by its definition.
-use Rattle.ink.specs.Ink.{alphanumeric}
+-- The library's letters and digits are those between the bounds.
+use Rattle.ink.specs.Ink.{alphanumeric, between}
 use Rattle.ink.proofs.is_alphanumeric.Goals as goal
 
 pub returns : goal.returns
-unfolding alphanumeric
+unfolding alphanumeric between
 returns c = cc

@@ -1,5 +1,5 @@
 -- Each arm of the branch writes its arm of `when`.
-use Rattle.lent.proofs.Writes.{arm_then, arm_else}
+use Rattle.lent.proofs.Pens.{arm_then, arm_else}
 use Rattle.ink.specs.Ink.{code}
 use Rattle.ink.proofs.put_code.Goals as goal
 

@@ -1,8 +1,9 @@
 -- The turns of the loop are those of `each`.
-use Prim.Native.Nat.{◌≤◌}
-use Rattle.lent.specs.Write.{Wrote, pen, each}
+use Rattle.lent.specs.Write.{each}
+use Rattle.lent.specs.Pens.{Written}
 use Rattle.ink.specs.Ink.{indent}
+use Rattle.std.proofs.Common.{◌≤◌}
 use Rattle.ink.proofs.put_indents.Given as goal
 
-abbrev pub invariant-loop-i : goal.invariant-loop-i
-invariant-loop-i l = Wrote (pen l.initial.out l.to-2) (each l.i indent) (pen l.out l.to) × (l.i ≤ l.level)
+abbrev pub invariant-loop : goal.invariant-loop
+invariant-loop l = Written l.initial.pen (each l.counter indent) l.pen × (l.counter ≤ l.level)

@@ -1,8 +1,8 @@
 -- The calls, one after the other.
-use Rattle.lent.proofs.Writes.{seq}
+use Rattle.lent.proofs.Pens.{seq}
 use Rattle.ink.specs.Ink.{line}
 use Rattle.ink.proofs.put_line.Goals as goal
 
 pub returns : goal.returns
 unfolding line
-returns c = seq c.put_indents.ensures c.put-to.ensures
+returns c = search seq

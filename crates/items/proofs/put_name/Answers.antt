@@ -1,7 +1,8 @@
 -- The calls, one after the other.
-use Rattle.lent.proofs.Writes.{seq}
+use Rattle.lent.proofs.Pens.{seq}
+use Rattle.items.specs.Items.{close, word_text}
 use Rattle.items.proofs.put_name.Goals as goal
 
 pub returns : goal.returns
-returns c =
-    seq c.put_bytes.ensures c.put-to.ensures
+unfolding close word_text
+returns c = search seq

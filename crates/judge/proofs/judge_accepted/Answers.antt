@@ -1,27 +1,28 @@
 -- By what was found of loops, and by whether the findings fit.
-use mathlib.Core.Path.{sym, ◌∙◌}
+use Rattle.std.proofs.Common.{rules, tests, ◌≡◌, ◌+◌, length}
+use Rattle.std.proofs.lemmas.Result.{err_from_is_err_and}
 use Rattle.judge.proofs.Cases.{few_case, long_case, done_case}
 use Rattle.judge.proofs.judge_accepted.Goals as goal
 
-pub returns-then-too_few : goal.returns-then-too_few
-returns-then-too_few c =
-    λ e. rw (
-      c.wipe.ensures,
-      c.wipe-then-too_few.ensures,
-      c.smallest_in-smallest.ensures.pairs_after,
-    ) (few_case c.args.file.now c.args.l c.args.copy.now c.args.findings.now c.args.pairs.now e _ (rw c.marks_of-m.ensures at c.mend_into.ensures) c.smallest_in-smallest.result c.smallest_in-smallest.ensures.smallest_as (sym c.too_few.ensures ∙ c.if-too_few.true))
+pub returns-in_err-smallest : goal.returns-in_err-smallest
+returns-in_err-smallest c =
+    let a = c.args in
+    let p = err_from_is_err_and c.from_residual.result c.from_residual.ensures.1 in
+    rw (p.1, p.2, c.smallest_in.ensures.pairs_after)
+    (λ e. few_case a.file.now a.layout _ _ c.tables_of-font.ensures c.marks-marks.ensures a.copy.now a.findings.now a.pairs.now e _ c.mend_into.ensures c.in_err-smallest.ensures.smallest_as)
 
-pub returns-then-findings-end : goal.returns-then-findings-end
-returns-then-findings-end c =
-    λ e. rw (
-      c.wipe-then-findings-end.ensures,
-      c.wipe-then-findings-end-2.ensures,
-      c.smallest_in-smallest.ensures.pairs_after,
-    ) (long_case c.args.file.now c.args.l c.args.copy.now c.args.findings.now c.args.pairs.now e _ (rw c.marks_of-m.ensures at c.mend_into.ensures) c.smallest_in-smallest.result c.smallest_in-smallest.ensures.smallest_as (sym c.too_few.ensures ∙ c.if-too_few.false) _ c.report-reported.result (rw c.marks_of-m.ensures at c.report-reported.ensures) c.if-findings-end.true)
+pub returns-then-has_overflowed : goal.returns-then-has_overflowed
+returns-then-has_overflowed c =
+    let a = c.args in
+    let q = c.report-mends.new.pen in
+    let past : q.to ≡ length q.out.now + 1 = search (rules, tests) in
+    rw c.smallest_in.ensures.pairs_after
+    (λ e. long_case a.file.now a.layout _ _ c.tables_of-font.ensures c.marks-marks.ensures a.copy.now a.findings.now a.pairs.now e _ c.mend_into.ensures c.in_ok-smallest.smallest c.in_ok-smallest.ensures.smallest_as _ q c.report-mends.result c.new-pen.ensures.start c.report-mends.ensures (search rules) past)
 
 pub returns : goal.returns
 returns c =
-    λ e. rw (
-      c.verdict_on.ensures,
-      c.smallest_in-smallest.ensures.pairs_after,
-    ) (done_case c.args.file.now c.args.l c.args.copy.now c.args.findings.now c.args.pairs.now e _ (rw c.marks_of-m.ensures at c.mend_into.ensures) c.smallest_in-smallest.result c.smallest_in-smallest.ensures.smallest_as (sym c.too_few.ensures ∙ c.if-too_few.false) _ c.report-reported.result (rw c.marks_of-m.ensures at c.report-reported.ensures) c.if-findings-end.false)
+    let a = c.args in
+    let q = c.report-mends.new.pen in
+    let past : q.to ≡ length q.out.now + 1 → ⊥ = search (rules, tests) in
+    rw (c.smallest_in.ensures.pairs_after, c.verdict_on.ensures, c.end.ensures)
+    (λ e. done_case a.file.now a.layout _ _ c.tables_of-font.ensures c.marks-marks.ensures a.copy.now a.findings.now a.pairs.now e _ c.mend_into.ensures c.in_ok-smallest.smallest c.in_ok-smallest.ensures.smallest_as _ q c.report-mends.result c.new-pen.ensures.start c.report-mends.ensures (search rules) past)

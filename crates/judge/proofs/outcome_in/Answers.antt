@@ -2,10 +2,8 @@
 use Rattle.judge.specs.Judge.{program_in}
 use Rattle.judge.proofs.outcome_in.Goals as goal
 
-pub returns : goal.returns
+pub returns-clause-pair_as : goal.returns-clause-pair_as
 unfolding program_in
-returns c =
-    record {
-      pair_as = rw (← c.table.ensures.holds, ← c.table-2.ensures.holds) c.pair_outcome.ensures.pair_as;
-      pairs_after = c.pair_outcome.ensures.room_after;
-    }
+returns-clause-pair_as c =
+    let font = c.tables_of.ensures in
+    rw (← font.infos, ← font.steps, ← font.layout) c.pair_outcome.ensures.pair_as

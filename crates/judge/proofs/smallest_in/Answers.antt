@@ -2,10 +2,8 @@
 use Rattle.judge.specs.Judge.{program_in}
 use Rattle.judge.proofs.smallest_in.Goals as goal
 
-pub returns : goal.returns
+pub returns-clause-smallest_as : goal.returns-clause-smallest_as
 unfolding program_in
-returns c =
-    record {
-      smallest_as = rw (← c.table.ensures.holds, ← c.table-2.ensures.holds) c.smallest_loop.ensures.smallest_as;
-      pairs_after = c.smallest_loop.ensures.room_after;
-    }
+returns-clause-smallest_as c =
+    let font = c.tables_of.ensures in
+    rw (← font.infos, ← font.steps, ← font.layout) c.smallest_loop.ensures.smallest_as

@@ -5,6 +5,4 @@ use Rattle.ligatures.proofs.put_accessible.Goals as goal
 
 pub returns : goal.returns
 unfolding accessible_item
-returns c =
-    rw (← c.byte_of-skip.ensures)
-    (after c.put_tail.ensures (after c.put_step-to.ensures c.put_labels-to.ensures))
+returns c = rw (← c.byte_of-skip.ensures) (search after)

@@ -1,12 +1,10 @@
--- Each arm of the branch prints its arm of `choose`.
-use Rattle.items.proofs.Laws.{choices}
-use Rattle.ligatures.specs.Ligatures.{boundary_item}
+-- A leaf where the character is there, and nothing where it is not.
+use Rattle.std.proofs.Common.{rules}
+use Rattle.ligatures.proofs.Boundary.{one_boundary, no_boundary}
 use Rattle.ligatures.proofs.put_boundary.Goals as goal
 
-pub returns-then-byte_of-eq255 : goal.returns-then-byte_of-eq255
-unfolding boundary_item
-returns-then-byte_of-eq255 c = rw (← c.byte_of-c.ensures, ← c.byte_of.ensures) (search choices depth 9)
+pub returns-in-Some : goal.returns-in-Some
+returns-in-Some c = one_boundary _ _ (search rules) c.in-Some.ensures c.put_leaf.ensures
 
-pub returns-else-byte_of-eq255 : goal.returns-else-byte_of-eq255
-unfolding boundary_item
-returns-else-byte_of-eq255 c = rw (← c.byte_of-c.ensures, ← c.byte_of.ensures) (search choices depth 9)
+pub returns-in_default : goal.returns-in_default
+returns-in_default c = no_boundary _ _ c.holds_bytes.ensures c.in_default.ensures

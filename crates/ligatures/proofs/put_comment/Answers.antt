@@ -5,5 +5,4 @@ use Rattle.ligatures.proofs.put_comment.Goals as goal
 
 pub returns : goal.returns
 unfolding program_comment
-returns c =
-    a_group c.put_close.ensures c.put_program-to.ensures c.group_bare-to.ensures
+returns c = search a_group

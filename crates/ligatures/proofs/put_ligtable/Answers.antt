@@ -3,10 +3,10 @@ use Rattle.items.proofs.Laws.{choices}
 use Rattle.ligatures.specs.Ligatures.{ligtable}
 use Rattle.ligatures.proofs.put_ligtable.Goals as goal
 
-pub returns-then-nl-eq0 : goal.returns-then-nl-eq0
+pub returns-then-program-ne0 : goal.returns-then-program-ne0
 unfolding ligtable
-returns-then-nl-eq0 c = search choices depth 9
+returns-then-program-ne0 c = search choices depth 9
 
-pub returns-else-nl-eq0 : goal.returns-else-nl-eq0
+pub returns-else-program-ne0 : goal.returns-else-program-ne0
 unfolding ligtable
-returns-else-nl-eq0 c = search choices depth 9
+returns-else-program-ne0 c = search choices depth 9

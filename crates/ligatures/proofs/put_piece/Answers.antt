@@ -3,14 +3,14 @@ use Rattle.items.proofs.Laws.{choices}
 use Rattle.ligatures.specs.Ligatures.{piece}
 use Rattle.ligatures.proofs.put_piece.Goals as goal
 
-pub returns-then-mark-eq0 : goal.returns-then-mark-eq0
+pub returns-in-0 : goal.returns-in-0
 unfolding piece
-returns-then-mark-eq0 c = rw (← c.at-mark.ensures) (search choices depth 9)
+returns-in-0 c = rw (← c.at.ensures) (search choices depth 9)
 
-pub returns-then-mark-eq1 : goal.returns-then-mark-eq1
+pub returns-in-1 : goal.returns-in-1
 unfolding piece
-returns-then-mark-eq1 c = rw (← c.at-mark.ensures) (search choices depth 9)
+returns-in-1 c = rw (← c.at.ensures) (search choices depth 9)
 
-pub returns-else-mark-eq1 : goal.returns-else-mark-eq1
+pub returns-in_default : goal.returns-in_default
 unfolding piece
-returns-else-mark-eq1 c = rw (← c.at-mark.ensures) (search choices depth 9)
+returns-in_default c = rw (← c.at.ensures) (search choices depth 9)

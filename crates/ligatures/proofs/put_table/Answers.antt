@@ -3,6 +3,4 @@ use Rattle.items.proofs.Laws.{a_group}
 use Rattle.ligatures.proofs.put_table.Goals as goal
 
 pub returns : goal.returns
-returns c =
-    a_group c.put_close.ensures c.put_pieces-to.ensures
-    c.group_bare-to.ensures
+returns c = search a_group

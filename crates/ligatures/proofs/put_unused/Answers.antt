@@ -5,5 +5,4 @@ use Rattle.ligatures.proofs.put_unused.Goals as goal
 
 pub returns : goal.returns
 unfolding unused
-returns c =
-    a_group c.put_close.ensures c.put_unused_steps-to.ensures c.group_bare-to.ensures
+returns c = search a_group

@@ -1,16 +1,19 @@
--- The turns of the loop are those of `loop`.
-use borrow.Author.Rules.{rules}
-use Rattle.items.proofs.Laws.{keeps, no_round, one_round, all_rounds}
+-- One step more.
+use Rattle.std.proofs.Common.{◌≡◌, ◌-◌, arith}
+use Rattle.items.proofs.Laws.{no_round}
+use Rattle.ligatures.proofs.Ways.{unused_more}
 use Rattle.ligatures.proofs.put_unused_steps.Goals as goal
 
-pub loop-j-init : goal.loop-j-init
-loop-j-init c = (no_round, search rules)
+pub loop-step-init : goal.loop-step-init
+loop-step-init c =
+    let e : c.args.i - c.args.i ≡ 0 = omega arith in
+    (rw e no_round, omega arith)
 
-pub loop-j-preserved : goal.loop-j-preserved
-loop-j-preserved c = (search one_round, search rules)
-
-pub shape_of-out : goal.shape_of-out
-shape_of-out c = keeps c.loop-j.invariant.0
+pub loop-step-preserved : goal.loop-step-preserved
+loop-step-preserved c =
+    (unused_more _ _ _ _ _ _ (omega arith) c.put_unused_step.ensures c.loop-step.invariant.0, omega arith)
 
 pub returns : goal.returns
-returns c = all_rounds c.loop-j.invariant.0 c.loop-j.invariant.1 c.loop-j-test.false
+returns c =
+    let e : c.loop-step.step - c.args.i ≡ c.args.end - c.args.i = omega arith in
+    rw e at c.loop-step.invariant.0

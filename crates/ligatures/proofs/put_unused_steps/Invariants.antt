@@ -1,9 +1,9 @@
--- The turns of the loop are those of `loop`.
-use Prim.Native.Nat.{◌≤◌}
-use Rattle.lent.specs.Write.{pen}
-use Rattle.items.specs.Items.{loop, Listed}
-use Rattle.ligatures.specs.Ligatures.{unused_step}
+-- The steps before this one are printed.
+use Rattle.std.proofs.Common.{◌-◌, ◌≤◌, max}
+use Rattle.items.specs.Items.{Printed}
+use Rattle.ligatures.specs.Programs.{unused_steps_of}
 use Rattle.ligatures.proofs.put_unused_steps.Given as goal
 
-abbrev pub invariant-loop-j : goal.invariant-loop-j
-invariant-loop-j l = Listed (pen l.initial.out l.to-2) 2 (loop l.j (unused_step l.letters l.s l.kerns l.m l.i)) (pen l.out l.to) × (l.j ≤ l.n)
+abbrev pub invariant-loop-step : goal.invariant-loop-step
+invariant-loop-step l =
+    Printed l.initial.pen 2 (unused_steps_of l.program l.i (l.step - l.i)) l.pen × (l.step ≤ max l.i l.end)

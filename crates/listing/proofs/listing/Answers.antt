@@ -1,20 +1,22 @@
--- By the number of the verdict, and by whether the listing fits.
-use mathlib.Core.Path.{sym, ◌∙◌}
+-- By the verdict, and by whether the text fits.
+use Rattle.std.proofs.Common.{rules, tests, ◌≡◌, ◌+◌, length}
 use Rattle.listing.proofs.Cases.{refused_case, long_case, fits_case}
-use borrow.Author.Rules.{rules}
 use Rattle.listing.proofs.listing.Goals as goal
 
-pub returns-then-number-ne0 : goal.returns-then-number-ne0
-returns-then-number-ne0 c =
-    rw c.refuse.ensures
-    (refused_case _ _ _ _ _ _ _ c.verdict-judgement.ensures c.number_in-number.ensures c.if-number-ne0.true)
+pub returns-in-Err : goal.returns-in-Err
+returns-in-Err c = rw c.refuse.ensures (refused_case _ _ _ _ _ _ c.in-Err.refusal c.in-Err.ensures)
 
-pub returns-then-out-end : goal.returns-then-out-end
-returns-then-out-end c =
-    rw (c.wipe-then-out-end-2.ensures, c.wipe-then-out-end.ensures, c.wipe.ensures)
-    (long_case _ _ _ _ _ _ _ c.verdict-judgement.ensures (sym c.number_in-number.ensures ∙ c.if-number-ne0.false) (rw c.read_layout.ensures at c.put_listing-end.ensures) c.if-out-end.true (search rules) (search rules))
+pub returns-then-has_overflowed : goal.returns-then-has_overflowed
+returns-then-has_overflowed c =
+    let q = c.put_listing.new.pen in
+    let past : q.to ≡ length q.out.now + 1 = search (rules, tests) in
+    let printed = rw c.read_layout.ensures at c.put_listing.ensures in
+    let wiped = c.fill-then-has_overflowed-2.ensures.after (λ y e. e) in
+    long_case _ _ _ _ _ _ c.in-Ok.ensures _ q c.new-pen.ensures.start printed (c.fill.ensures.after (λ y e. e)) (c.fill-then-has_overflowed.ensures.after (λ y e. e)) (search (wiped, rules)) (search rules) (search rules) past
 
 pub returns : goal.returns
 returns c =
-    rw c.with_text.ensures
-    (fits_case _ _ _ _ _ _ _ c.verdict-judgement.ensures (sym c.number_in-number.ensures ∙ c.if-number-ne0.false) (rw c.read_layout.ensures at c.put_listing-end.ensures) c.if-out-end.false)
+    let q = c.put_listing.new.pen in
+    let past : q.to ≡ length q.out.now + 1 → ⊥ = search (rules, tests) in
+    let printed = rw c.read_layout.ensures at c.put_listing.ensures in
+    rw c.end-text.ensures (fits_case _ _ _ _ _ _ c.in-Ok.ensures _ q c.new-pen.ensures.start printed (search rules) past)

@@ -1,7 +1,8 @@
--- The calls, one after the other.
+-- The items of the bytes that are the copy.
 use Rattle.listing.proofs.put_listing.Goals as goal
 
 pub returns : goal.returns
 returns c =
-    rw (← c.table.ensures.holds, ← c.table-2.ensures.holds, ← c.marks-m.ensures, ← c.part-bytes.ensures.holds)
-    (c.put_copy.ensures)
+    let font = c.tables_of-font.ensures in
+    let marks = rw font.layout at c.marks.ensures in
+    rw (← font.infos, ← font.steps, ← c.part-bytes.ensures.holds, ← marks) c.put_copy.ensures

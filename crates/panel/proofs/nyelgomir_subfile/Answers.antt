@@ -1,9 +1,14 @@
--- The number that is asked for is answered as the caller's own.
-use mathlib.Core.Path.{refl}
+-- A number over 9 is answered as 10 is.
+use Rattle.std.proofs.Common.{◌∙◌}
 use Rattle.panel.proofs.Asked.{asked}
 use Rattle.panel.proofs.nyelgomir_subfile.Goals as goal
 
-pub returns : goal.returns
-returns c =
+pub returns-clause-value : goal.returns-clause-value
+returns-clause-value c =
     let alike = asked c.args.file.now c.args.k in
-    rw (c.subfile_number.ensures, c.place_of.ensures, c.subfile_asked-asked.ensures, alike.0, alike.1, alike.2) record { value = refl; part_after = refl }
+    c.number_of.ensures ∙ c.try_subfile.ensures.refusal ∙ rw c.subfile_asked-asked.ensures alike.0
+
+pub returns-clause-part_after : goal.returns-clause-part_after
+returns-clause-part_after c =
+    let alike = asked c.args.file.now c.args.k in
+    rw (← alike.1, ← alike.2, ← c.subfile_asked-asked.ensures) c.place_of.ensures

@@ -1,17 +1,14 @@
--- Every entry below i is good.
-use borrow.Author.Count.{below_more}
-use native.Mathlib.Omega.{arith}
-use Rattle.settle.proofs.Whole.{program_of_lem, good_of, judged_yes, judged_no}
+-- Each entry, and each with its next.
+use Rattle.std.proofs.Common.{◌<◌, ◌≤◌, rules, tests, ltb, arith}
+use Rattle.std.proofs.lemmas.List.Sorted.{answers_always}
+use Rattle.std.proofs.lemmas.Iterator.{cases_from_all, YieldsList-from_slice}
+use Rattle.settle.specs.Settle.{key_of, st_of}
+use Rattle.settle.proofs.States.{not_held}
+use Rattle.settle.proofs.Found.{program_if}
 use Rattle.settle.proofs.is_program.Goals as goal
 
-pub loop-i-init : goal.loop-i-init
-loop-i-init c = (omega arith, λ k h. absurd (omega arith))
-
-pub returns-then-not-good : goal.returns-then-not-good
-returns-then-not-good c = judged_no (λ p. c.good.ensures.fails c.if-not-good.true (good_of _ p _ (omega arith)))
-
-pub loop-i-preserved : goal.loop-i-preserved
-loop-i-preserved c = (omega arith, below_more _ _ c.loop-i.invariant.1 (c.good.ensures.holds c.if-not-good.false))
-
-pub returns : goal.returns
-returns c = judged_yes (program_of_lem c.args.room.now (λ i h. c.loop-i.invariant.1 i (omega arith)))
+pub returns-then-all : goal.returns-then-all
+returns-then-all c =
+    let steps = cases_from_all _ _ _ (λ e. st_of e < 4) (λ e. 4 ≤ st_of e) c.all.ensures.ran (YieldsList-from_slice c.args.room.now cc) (λ x q k. search (rules, tests, not_held)) (λ x q k. search (rules, tests)) in
+    let all = rw c.if-all.true at steps in
+    program_if c.args.room.now _ (λ i l. all i 0 (omega arith) l) (c.is_sorted_by.ensures.cases (λ e f. ltb (key_of e) (key_of f)) (answers_always _ _ _ (λ f a r g called. search (rules, tests))))

@@ -2,5 +2,5 @@
 use Rattle.settle.proofs.Whole.{visited}
 use Rattle.settle.proofs.visit.Goals as goal
 
-pub returns : goal.returns
-returns c = visited c.requires c.settle.ensures
+pub returns-in-Left : goal.returns-in-Left
+returns-in-Left c = visited c.requires c.settle.ensures

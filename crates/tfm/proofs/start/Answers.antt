@@ -1,28 +1,12 @@
--- The turns of the loop are those of `iterate`.
-use mathlib.Core.Path.{◌≡◌}
-use native.Mathlib.Numerals.{add-one}
-use native.Mathlib.Omega.{arith}
-use Rattle.lent.specs.Fold.{iterate}
-use Rattle.tfm.specs.Subfiles.{count_of, start_of}
-use borrow.Author.Rules.{rules}
+-- The sum of the counts before the subfile.
+use Rattle.std.proofs.Common.{arith, rules}
+use Rattle.tfm.proofs.Starts.{begins, bounded}
 use Rattle.tfm.proofs.start.Goals as goal
 
-pub loop-i-init : goal.loop-i-init
-unfolding iterate
-loop-i-init c = search rules
-
-pub loop-i-preserved : goal.loop-i-preserved
-unfolding iterate
-loop-i-preserved c = (
-  omega arith,
-  rw (add-one, c.number_at.ensures, c.loop-i.invariant.1),
-  omega arith,
-)
+pub overflow_add-result : goal.overflow_add-result
+overflow_add-result c = let b = bounded c.args.layout _ c.args.k _ _ (search rules) c.counts-counts.ensures c.min.ensures c.total.ensures in search rules
 
 pub returns : goal.returns
-unfolding start_of count_of
 returns c =
-    let e : c.loop-i.i ≡ c.args.k = omega arith in (
-      rw (e, c.counts-counts.ensures) at c.loop-i.invariant.1,
-      omega arith,
-    )
+    let b = bounded c.args.layout _ c.args.k _ _ (search rules) c.counts-counts.ensures c.min.ensures c.total.ensures in
+    record { value = begins _ _ _ _ _ c.counts-counts.ensures c.min.ensures c.total.ensures; bound = omega arith }

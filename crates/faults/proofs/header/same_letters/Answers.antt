@@ -1,17 +1,22 @@
--- The turns of the loop are those of `iterate`.
-use mathlib.Core.Path.{◌≡◌, ◌∙◌}
-use native.Mathlib.Omega.{arith}
+-- All of the letters, by the turns of `iterate`.
+use Rattle.std.proofs.Common.{rules, tests, ◌≡◌, ◌∙◌, ℕ, ◌+◌, Bool, true, List, eqb, get_or}
+use Rattle.std.specs.List.{range_with_len, list_all}
+use Rattle.std.proofs.Math.Bool.{and_assoc, and-true}
+use Rattle.std.proofs.lemmas.Iterator.{YieldsList-from_range}
+use Rattle.std.proofs.lemmas.Iterator.Search.{all_from_yields_List}
 use Rattle.lent.specs.Fold.{iterate}
-use Rattle.lent.proofs.Lists.{iterate_more}
-use borrow.Author.Rules.{rules}
+use Rattle.faults.specs.Header.{same_letter, string_byte, upper}
 use Rattle.faults.proofs.header.same_letters.Goals as goal
 
-pub loop-i-init : goal.loop-i-init
-loop-i-init c = unfold iterate in search rules
+abbrev same : List ℕ → List ℕ → ℕ → Bool
+same h text i = eqb (upper (string_byte h 0 (i + 1))) (get_or text i 0)
 
-pub loop-i-preserved : goal.loop-i-preserved
-loop-i-preserved c = (omega arith, c.same_letter-same.ensures ∙ rw (iterate_more, ← c.loop-i.invariant.1))
+letters : (h text : List ℕ) → list_all (same h text) (range_with_len 0 11) ≡ iterate (same_letter h text) true 11
+unfolding iterate same_letter
+letters h text = simp (and_assoc, and-true)
 
 pub returns : goal.returns
-returns c = let e : c.loop-i.i ≡ 11 = omega arith in
-    rw e at c.loop-i.invariant.1
+returns c =
+    let h = c.args.font.now.header.now in
+    let text = c.args.text.now in
+    all_from_yields_List (same h text) _ _ c.all.result c.all.ensures.ran (YieldsList-from_range 0 11 11 (search rules) (search rules)) (λ x b q k. search (rules, tests)) ∙ letters h text

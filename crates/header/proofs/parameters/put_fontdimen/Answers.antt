@@ -3,10 +3,10 @@ use Rattle.items.proofs.Laws.{choices}
 use Rattle.header.specs.Parameters.{fontdimen}
 use Rattle.header.proofs.parameters.put_fontdimen.Goals as goal
 
-pub returns-then-n-eq0 : goal.returns-then-n-eq0
+pub returns-then-font-ne0 : goal.returns-then-font-ne0
 unfolding fontdimen
-returns-then-n-eq0 c = search choices depth 9
+returns-then-font-ne0 c = search choices depth 9
 
-pub returns-else-n-eq0 : goal.returns-else-n-eq0
+pub returns-else-font-ne0 : goal.returns-else-font-ne0
 unfolding fontdimen
-returns-else-n-eq0 c = search choices depth 9
+returns-else-font-ne0 c = search choices depth 9

@@ -1,12 +1,9 @@
--- Each arm of the branch prints its arm of `choose`.
-use Rattle.items.proofs.Laws.{choices}
-use Rattle.header.specs.Parameters.{parameter_item}
+-- Under its name, or its number.
+use Rattle.header.proofs.Names.{with_name, with_number}
 use Rattle.header.proofs.parameters.put_parameter.Goals as goal
 
-pub returns-then-i-le7 : goal.returns-then-i-le7
-unfolding parameter_item
-returns-then-i-le7 c = search choices depth 9
+pub returns-in-Some : goal.returns-in-Some
+returns-in-Some c = with_name _ _ _ _ c.args.kind c.in-Some.ensures c.put_leaf.ensures
 
-pub returns-else-i-le7 : goal.returns-else-i-le7
-unfolding parameter_item
-returns-else-i-le7 c = search choices depth 9
+pub returns-in-None : goal.returns-in-None
+returns-in-None c = with_number _ _ _ _ c.args.kind c.in-None.ensures c.put_leaf-in-None.ensures

@@ -3,10 +3,10 @@ use Rattle.items.proofs.Laws.{choices}
 use Rattle.ligatures.specs.Labels.{label_item}
 use Rattle.ligatures.proofs.labels.put_label.Goals as goal
 
-pub returns-then-number_at-i : goal.returns-then-number_at-i
+pub returns-then-at-i : goal.returns-then-at-i
 unfolding label_item
-returns-then-number_at-i c = rw (← c.number_at.ensures) (search choices depth 9)
+returns-then-at-i c = rw (← c.at.ensures) (search choices depth 9)
 
-pub returns-else-number_at-i : goal.returns-else-number_at-i
+pub returns-else-at-i : goal.returns-else-at-i
 unfolding label_item
-returns-else-number_at-i c = rw (← c.number_at.ensures) (search choices depth 9)
+returns-else-at-i c = rw (← c.at.ensures) (search choices depth 9)

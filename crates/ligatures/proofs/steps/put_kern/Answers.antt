@@ -9,4 +9,4 @@ returns-then-r-kerns c = rw (← c.word_of-word.ensures) (search choices depth 9
 
 pub returns-else-r-kerns : goal.returns-else-r-kerns
 unfolding kern_item
-returns-else-r-kerns c = rw (← c.word_of-word.ensures) (search choices depth 9)
+returns-else-r-kerns c = search choices depth 9

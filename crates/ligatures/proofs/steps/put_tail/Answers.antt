@@ -13,4 +13,4 @@ returns-then-skip-ge128 c = search choices depth 9
 
 pub returns-else-skip-ge128 : goal.returns-else-skip-ge128
 unfolding tail_item
-returns-else-skip-ge128 c = search choices depth 9
+returns-else-skip-ge128 c = rw (← c.skipped.ensures) (search choices depth 9)

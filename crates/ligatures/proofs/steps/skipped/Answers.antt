@@ -1,22 +1,14 @@
--- The turns of the loop are those of `iterate`.
-use mathlib.Core.Path.{◌≡◌, ◌∙◌}
-use native.Mathlib.Omega.{arith}
-use borrow.Author.Rules.{rules}
-use Rattle.lent.specs.Fold.{iterate}
-use Rattle.lent.proofs.Lists.{iterate_more}
-use Rattle.ligatures.specs.Ligatures.{skipped}
+-- What is counted is those of the steps after this one that are accessible.
+use Rattle.std.proofs.Common.{◌+◌, eqb, ◌∙◌, rules, tests, arith}
+use lib.ListN.{get_or}
+use Rattle.std.proofs.lemmas.Iterator.{YieldsList-from_range}
+use Rattle.std.proofs.lemmas.Iterator.Consumers.{count_from_yields_List, YieldsList-from_filter}
+use Rattle.ligatures.proofs.Ways.{skips}
 use Rattle.ligatures.proofs.steps.skipped.Goals as goal
 
-pub loop-j-init : goal.loop-j-init
-loop-j-init c = unfold iterate in search rules
-
-pub loop-j-preserved : goal.loop-j-preserved
-loop-j-preserved c =
-    let l = c.loop-j in
-    (omega arith, omega (arith, c.count_step-count.ensures.1, l.invariant.1), c.count_step-count.ensures.0 ∙ rw (iterate_more, ← l.invariant.2))
-
 pub returns : goal.returns
-unfolding skipped
 returns c =
-    let e : c.loop-j.j ≡ c.args.n = omega arith in
-    rw e at c.loop-j.invariant.2
+    let m = c.args.marks.now in
+    count_from_yields_List c.filter.result _ c.count.ensures.ran
+    (YieldsList-from_filter _ (λ j. eqb (get_or m (c.args.i + 1 + j) 0) 2) (YieldsList-from_range 0 c.args.n c.args.n (search rules) (omega arith)) c.filter.ensures.closure (λ x r q k. search (rules, tests)))
+    ∙ skips m c.args.i c.args.n

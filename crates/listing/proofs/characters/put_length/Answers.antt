@@ -1,4 +1,4 @@
--- Each arm of the branch prints its arm of `choose`.
+-- By the test.
 use Rattle.items.proofs.Laws.{choices}
 use Rattle.listing.specs.Characters.{length_item}
 use Rattle.listing.proofs.characters.put_length.Goals as goal
@@ -9,4 +9,4 @@ returns-then-i-t c = rw (← c.word_of-word.ensures) (search choices depth 9)
 
 pub returns-else-i-t : goal.returns-else-i-t
 unfolding length_item
-returns-else-i-t c = rw (← c.word_of-word.ensures) (search choices depth 9)
+returns-else-i-t c = search choices depth 9

@@ -5,5 +5,4 @@ use Rattle.listing.proofs.characters.put_lengths.Goals as goal
 
 pub returns : goal.returns
 unfolding length_items
-returns c =
-    after c.put_length.ensures (after c.put_length-to-2.ensures (after c.put_length-to.ensures c.put_width-to.ensures))
+returns c = search after

@@ -1,4 +1,4 @@
--- Each arm of the branch prints its arm of `choose`.
+-- By the test.
 use Rattle.items.proofs.Laws.{choices}
 use Rattle.listing.specs.Characters.{width_item}
 use Rattle.listing.proofs.characters.put_width.Goals as goal

@@ -1,21 +1,15 @@
 -- The turns of the loop are those of `each`.
-use Rattle.lent.proofs.Ends.{keeps}
-use Rattle.lent.proofs.Writes.{no_turn, one_turn, all_turns}
+use Rattle.std.proofs.Common.{rules}
+use Rattle.lent.proofs.Pens.{no_turn, one_turn, all_turns}
 use Rattle.mend.specs.Findings.{found_tags}
-use borrow.Author.Rules.{rules}
 use Rattle.mend.proofs.findings.put_findings.Goals as goal
 
 pub loop-i-init : goal.loop-i-init
 loop-i-init c = (no_turn, search rules)
 
 pub loop-i-preserved : goal.loop-i-preserved
-loop-i-preserved c = (
-  one_turn c.put_after-to.ensures c.loop-i.invariant.0,
-  search rules,
-)
-
-pub shape_of-out : goal.shape_of-out
-shape_of-out c = keeps c.loop-i.invariant.0
+loop-i-preserved c = let made = c.new-looked.ensures in (one_turn (rw (made.file, made.infos, made.steps, made.marks, made.layout) at c.put_on.ensures) c.loop-i.invariant.0, search rules)
 
 pub returns : goal.returns
-returns c = unfold found_tags in all_turns c.loop-i.invariant.0 c.loop-i.invariant.1 c.loop-i-test.false
+unfolding found_tags
+returns c = search (all_turns, rules)

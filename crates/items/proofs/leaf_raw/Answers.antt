@@ -1,8 +1,0 @@
--- The calls, one after the other.
-use Rattle.items.proofs.Laws.{a_leaf}
-use Rattle.lent.proofs.Writes.{seq}
-use Rattle.items.proofs.leaf_raw.Goals as goal
-
-pub returns : goal.returns
-returns c =
-    a_leaf (seq c.put_close.ensures (seq c.put_raw-to.ensures c.put_name-to.ensures))
