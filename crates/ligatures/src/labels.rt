@@ -19,7 +19,7 @@ pub fn starts_of(font: &Font) -> [u32; 257]
     starts
 }
 
-// Flags of which those at the starts are set. A code that the table of starts doesn't have counts as one at step 0, so the codes are counted.
+// Flags of which those at the starts are set, and no others. A code that the table of starts doesn't have counts as one at step 0, so the codes are counted.
 pub fn carried(starts: &[u32]) -> [bool; 32768]
     ensures { Carries starts.now result }
 {
