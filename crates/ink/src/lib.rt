@@ -25,25 +25,25 @@ pub fn put_line(pen: &mut Pen, level: usize)
 }
 
 // The last digits of a number, at most as many as there are places: first those of the number without its last. (Not by Display: no format of
-// Display's keeps the last places and drops the others, as `digits` does.)
-fn put_digits(pen: &mut Pen, n: u32, base: u32, places: u32)
-    requires { (1 < base) × (base < 11) }
-    ensures { Written pen.old (lit (digits base places n)) pen.new }
+// Display's keeps the last places and drops the others, as `digits` does.) The base is known before it runs, so that no digit costs a division.
+fn put_digits<const BASE: u32>(pen: &mut Pen, n: u32, places: u32)
+    requires { (1 < BASE) × (BASE < 11) }
+    ensures { Written pen.old (lit (digits BASE places n)) pen.new }
 {
     if places == 0 {
         return;
     }
-    if n / base != 0 {
-        put_digits(pen, n / base, base, places - 1);
+    if n / BASE != 0 {
+        put_digits::<BASE>(pen, n / BASE, places - 1);
     }
-    pen.put(b'0' + (n % base) as u8);
+    pen.put(b'0' + (n % BASE) as u8);
 }
 
 // A number in decimal, its last digits alone if it has more than the places.
 pub fn put_at_most(pen: &mut Pen, n: u32, places: u32)
     ensures { Written pen.old (lit (digits 10 places n)) pen.new }
 {
-    put_digits(pen, n, 10, places);
+    put_digits::<10>(pen, n, places);
 }
 
 // A number in decimal.
@@ -59,7 +59,7 @@ pub fn put_octal(pen: &mut Pen, word: u32)
     ensures { Written pen.old (octal word) pen.new }
 {
     pen.put_bytes(b" O ");
-    put_digits(pen, word, 8, 11);
+    put_digits::<8>(pen, word, 11);
 }
 
 // The library's method, with a clause in the words of `code`.
