@@ -37,14 +37,21 @@ fn subfile_asked(k: u32) -> u8
     k.min(10) as u8
 }
 
-// The first byte of a subfile and its bytes.
+// The answer's number, and in the array the first byte of a subfile and how many bytes it has.
 #[tactic(auto, unfolding(tfm::specs::Subfiles::subfile_start, tfm::specs::Subfiles::subfile_of, lent::specs::Answer::on_accept))]
-fn place_of(file: &[u8], k: u8) -> [usize; 2]
-    ensures { result ≡ subfile_start file.now k ∷ length (subfile_of file.now k) ∷ [] }
+fn put_place(file: &[u8], k: u8, part: &mut [usize; 2]) -> u8
+    ensures value { result ≡ subfile_number file.now k }
+    ensures part_after { part.new ≡ subfile_start file.now k ∷ length (subfile_of file.now k) ∷ [] }
 {
     match tfm::try_subfile(file, k) {
-        Ok(bytes) => [4 * tfm::start(tfm::read_layout(file), k), bytes.len()],
-        Err(_) => [0, 0],
+        Ok(bytes) => {
+            *part = [4 * tfm::start(tfm::read_layout(file), k), bytes.len()];
+            0
+        }
+        Err(refusal) => {
+            *part = [0, 0];
+            refusal.number()
+        }
     }
 }
 
@@ -53,9 +60,7 @@ pub extern "C" fn nyelgomir_subfile(file: &[u8], k: u32, part: &mut [usize; 2]) 
     ensures value { result ≡ subfile_number file.now k }
     ensures part_after { part.new ≡ subfile_start file.now k ∷ length (subfile_of file.now k) ∷ [] }
 {
-    let asked = subfile_asked(k);
-    *part = place_of(file, asked);
-    tfm::number_of(&tfm::try_subfile(file, asked))
+    put_place(file, subfile_asked(k), part)
 }
 
 #[unsafe(no_mangle)]

@@ -301,7 +301,14 @@ pub fn try_subfile(file: &[u8], k: u8) -> Result<&[u8], Refusal>
     Ok(table(file, layout, k))
 }
 
-// The same, and an empty part where it is refused.
+// The number of that answer.
+pub fn subfile_number(file: &[u8], k: u8) -> u8
+    ensures { result ≡ subfile_number file.now k }
+{
+    number_of(&try_subfile(file, k))
+}
+
+// The same part, and an empty one where it is refused.
 #[tactic(auto, using(crate::proofs::Refusals::number_positive), unfolding(crate::specs::Subfiles::subfile_start, crate::specs::Subfiles::subfile_of, lent::specs::Answer::on_accept))]
 pub fn subfile(file: &[u8], k: u8) -> &[u8]
     ensures { PartOf file.entry (subfile_start file.now k) (subfile_of file.now k) result }
@@ -402,13 +409,20 @@ pub fn in_range(layout: Layout, code: u32) -> bool
     (layout.bc as u32 <= code) & (code <= layout.ec as u32)
 }
 
-// The code is a character.
+// The code is a character, by the words of char_info.
 #[tactic(auto, unfolding(crate::specs::Characters::exists_in))]
+fn exists_in(infos: &[u8], layout: Layout, code: u32) -> bool
+    ensures { result ≡ exists_in infos.now layout code }
+{
+    let i = code.saturating_sub(layout.bc as u32);
+    in_range(layout, code) & (byte_of(infos, i, 0) != 0)
+}
+
+// The code is a character.
 pub fn exists(font: &Font, code: u32) -> bool
     ensures { result ≡ exists_in font.now.infos.now font.now.layout code }
 {
-    let i = code.saturating_sub(font.layout.bc as u32);
-    in_range(font.layout, code) & (byte_of(font.infos, i, 0) != 0)
+    exists_in(font.infos, font.layout, code)
 }
 
 // What stands in a file for a code.
@@ -420,14 +434,20 @@ pub enum Lookup {
 }
 
 #[tactic(auto, unfolding(crate::specs::Characters::look_up))]
-pub fn look_up(font: &Font, code: u32) -> Lookup
-    ensures { result ≡ look_up font.now.infos.now font.now.layout code }
+fn look_up_in(infos: &[u8], layout: Layout, code: u32) -> Lookup
+    ensures { result ≡ look_up infos.now layout code }
 {
-    if exists(font, code) {
-        Lookup::Present(info_for(font, code))
+    if exists_in(infos, layout, code) {
+        Lookup::Present(char_info(infos, code.saturating_sub(layout.bc as u32)))
     } else {
         Lookup::Missing
     }
+}
+
+pub fn look_up(font: &Font, code: u32) -> Lookup
+    ensures { result ≡ look_up font.now.infos.now font.now.layout code }
+{
+    look_up_in(font.infos, font.layout, code)
 }
 
 // Word i of a table.
@@ -532,9 +552,9 @@ pub fn eye_lengths(file: &[u8], code: u32) -> Result<EyeLengths, Refusal>
     if 255 < code {
         return Err(Refusal::OutOfRange);
     }
-    let font = tables_of(file, layout);
-    let Lookup::Present(info) = look_up(&font, code) else {
+    // The other tables are cut only for a character that is there.
+    let Lookup::Present(info) = look_up_in(table(file, layout, 1), layout, code) else {
         return Err(Refusal::NoCharacter);
     };
-    Ok(lengths(&font, info))
+    Ok(lengths(&tables_of(file, layout), info))
 }
