@@ -80,7 +80,8 @@ fn judge_accepted(
     ensures { judge_number file.now layout copy.old ≡ 0 → JudgedUnwiped file.now layout copy.old findings.old pairs.old result copy.new findings.new pairs.new }
 {
     let font = tfm::tables_of(file, layout);
-    let marks = program::marks(&font);
+    let mut marks = [0u8; 32768];
+    program::mark_all(&font, &mut marks);
     mend_into(file, &font, &marks, copy);
     let smallest = smallest_in(copy, layout, pairs)?;
     let mut pen = Pen::new(findings);
@@ -140,7 +141,8 @@ fn pair_accepted(
     ensures { pair_number file.now layout left right copy.old ≡ 0 → PairedUnwiped file.now layout left right copy.old pairs.old result copy.new pairs.new }
 {
     let font = tfm::tables_of(file, layout);
-    let marks = program::marks(&font);
+    let mut marks = [0u8; 32768];
+    program::mark_all(&font, &mut marks);
     mend_into(file, &font, &marks, copy);
     outcome_in(copy, layout, pairs, left, right)
 }

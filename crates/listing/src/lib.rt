@@ -94,7 +94,9 @@ fn put_listing(pen: &mut Pen, file: &[u8], layout: Layout, copy: &[u8], verdict:
 {
     let font = tfm::tables_of(file, layout);
     let bytes = lent::part(copy, 0, 4 * (layout.lf as usize));
-    put_copy(pen, bytes, layout, &program::marks(&font), verdict);
+    let mut marks = [0u8; 32768];
+    program::mark_all(&font, &mut marks);
+    put_copy(pen, bytes, layout, &marks, verdict);
 }
 
 // 14 and 15 leave the listing's buffer all zeros too.

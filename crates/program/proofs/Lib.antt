@@ -1,2 +1,3 @@
 -- The laws of `program` that belong to no one function
+pub mod Marked
 pub mod Starts

@@ -207,8 +207,9 @@ fn mark_steps(font: &Font, marks: &mut [u8])
     }
 }
 
+// Marks each step; over zeros, the marks are those of `marks`. The array is lent, since one that is returned lies on the stack once more.
 #[tactic(auto, unfolding(crate::specs::Marks::marks_from))]
-fn mark_all(font: &Font, marks: &mut [u8])
+pub fn mark_all(font: &Font, marks: &mut [u8])
     ensures { marks.new ≡ marks_from font.now.infos.now font.now.steps.now font.now.layout marks.old }
 {
     mark_first(font, marks);
