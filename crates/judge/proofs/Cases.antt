@@ -45,7 +45,7 @@ or_right false b e = e
 pub room_for : (l : Layout) (c : List ℕ) → too_short l c ≡ 0 → 4 * l.lf ≤ length c
 room_for l c e = ltb-false _ _ (fails _ _ _ e)
 
-module _ (f : List ℕ) (l : Layout) (font : Font) (m : List ℕ) (cut : FontOf f l font) (marked : m ≡ marks_of font.infos.now font.steps.now font.layout) (later : ℕ) (e : number_of f l later ≡ 0) where
+module _ (f : List ℕ) (l : Layout) (later : ℕ) (e : number_of f l later ≡ 0) where
   -- the copy's own tables, whatever follows it
   bare_table : (k : ℕ) → k ≤ 9 → table_of (mended f l) l k ≡ tabulate (made f l k) (4 * count_of l k)
   bare_table k h = rw append-nil at (copy_table f l later e [] k h)
@@ -55,6 +55,7 @@ module _ (f : List ℕ) (l : Layout) (font : Font) (m : List ℕ) (cut : FontOf 
   same_program r =
       rw (copy_table f l later e r 1 (omega arith), copy_table f l later e r 6 (omega arith), bare_table 1 (omega arith), bare_table 6 (omega arith))
 
+module _ (f : List ℕ) (l : Layout) (font : Font) (m : List ℕ) (cut : FontOf f l font) (marked : m ≡ marks_of font.infos.now font.steps.now font.layout) (later : ℕ) (e : number_of f l later ≡ 0) where
   -- a copy that has room holds the mended bytes, and then what it held
   pub copied : {c c' : List ℕ} → 4 * l.lf ≤ length c → Copied f font m c c' → c' ≡ mended f l ++ drop (4 * l.lf) c
   unfolding mended
@@ -65,7 +66,7 @@ module _ (f : List ℕ) (l : Layout) (font : Font) (m : List ℕ) (cut : FontOf 
       at (overflowed h p q) = absurd (omega (arith, copy_length f l later e))
 
   pub program_in_lem : {c c' : List ℕ} → 4 * l.lf ≤ length c → Copied f font m c c' → program_in c' l ≡ mended_program f l
-  program_in_lem {c} room k = rw (copied room k) (same_program (drop (4 * l.lf) c))
+  program_in_lem {c} room k = rw (copied room k) (same_program f l later e (drop (4 * l.lf) c))
 
 -- zeros for a buffer of the same length
 zeros_for : (a b : List ℕ) → length b ≡ length a → zeros b ≡ zeros a

@@ -1,5 +1,5 @@
 -- The laws of `settle` that belong to no one function
-mod Found
+pub mod Found
 mod Moves
 mod Room
 mod States
