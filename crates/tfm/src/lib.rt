@@ -168,8 +168,9 @@ fn check_layout(layout: Layout) -> Result<(), Refusal>
     Ok(())
 }
 
-// The refusals 1 to 12.
+// The refusals 1 to 12. In line, as a call would be a seventh of what the twelve sizes or a subfile take.
 #[tactic(auto, unfolding(crate::specs::Sizes::number_of, lent::specs::Answer::first))]
+#[inline(always)]
 pub fn check(file: &[u8], layout: Layout) -> Result<(), Refusal>
     ensures { refused result ≡ number_of file.now layout 0 }
 {
